@@ -1,5 +1,5 @@
 ghost use Rattle.std.specs.Prelude.{◌≡◌, ◌≢◌, ◌≤◌, ◌+◌, ◌++◌, length, take, drop, OnOk, OnErr, Err};
-ghost use Rattle.stream_objects.specs.Headers.{start_bytes, start_form, end_bytes, end_form};
+ghost use Rattle.stream_objects.specs.Headers.{written_start, written_end};
 ghost use Rattle.compact_values.specs.Compact.{little_endian, compact};
 ghost use Rattle.compact_values.specs.Answers.{IsFoundAt, IsShortAt, IsOutOfFormAt};
 ghost use Rattle.compact_values.specs.declared.fault.ValueFault.TheVariants as faults;
@@ -16,7 +16,7 @@ use compact_values::{
 /// (MS-FSSHTTPB 2.2.1.5.1 and 2.2.1.5.2). Without memory nothing is added.
 pub fn start(out: &mut Octets, kind: u16, compound: bool, length: u64) -> Result<(), NoMemory>
     requires { kind ≤ 16383 }
-    ensures ok { OnOk result (out.new ≡ out.old ++ start_bytes (start_form kind length) kind compound length) }
+    ensures ok { OnOk result (out.new ≡ out.old ++ written_start kind compound length) }
     ensures err { OnErr result (out.new ≡ out.old) }
 {
     let bits = if compound { 4 } else { 0 } + 8 * kind as u64;
@@ -49,7 +49,7 @@ fn append_large(out: &mut Octets, header: u64, length: u64) -> Result<(), NoMemo
 /// form (MS-FSSHTTPB 2.2.1.5.3 and 2.2.1.5.4). Without memory nothing is added.
 pub fn finish(out: &mut Octets, kind: u16) -> Result<(), NoMemory>
     requires { kind ≤ 16383 }
-    ensures ok { OnOk result (out.new ≡ out.old ++ end_bytes (end_form kind) kind) }
+    ensures ok { OnOk result (out.new ≡ out.old ++ written_end kind) }
     ensures err { OnErr result (out.new ≡ out.old) }
 {
     if kind <= 0x3F {
