@@ -5,3 +5,5 @@ pub mod GuidBytes
 pub mod Reading
 pub mod Both
 pub mod GuidText
+pub mod Fields
+pub mod Taking

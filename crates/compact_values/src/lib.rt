@@ -6,6 +6,7 @@
 //! - `span`: a part of the input
 //! - `numbers`: numbers as bytes, the least first
 //! - `compact`: compact integers both ways
+//! - `taking`: values from the front of fields, one behind the other
 //! - `laws`: what holds of the spellings themselves
 #![tactic(auto)]
 
@@ -16,6 +17,7 @@ pub mod laws;
 mod numbers;
 mod seq;
 mod span;
+mod taking;
 
 pub use compact::{read_compact, write_compact};
 pub use fault::{NoMemory, ValueFault};
@@ -23,6 +25,7 @@ pub use guid::{Guid, guid_bytes, guid_of, guid_of_text};
 pub use numbers::{append_low_bytes, number_of};
 pub use seq::{Copied, Octets, Same, Seq};
 pub use span::Span;
+pub use taking::{take_byte, take_compact};
 
 #[cfg(test)]
 mod tests;

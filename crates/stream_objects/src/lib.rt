@@ -4,19 +4,25 @@
 //! - `tree`: an object with its children, as it was read
 //! - `fault`: why no tree could be read
 //! - `reading`: reading a tree from left to right
+//! - `objects`: the fields of an object that was read, and its children of a type
+//! - `written`: objects as they are written
 //! - `laws`: what holds of the spellings themselves
 #![tactic(auto)]
 
 mod fault;
 mod headers;
 pub mod laws;
+mod objects;
 mod reading;
 mod tree;
+mod written;
 
 pub use fault::TreeFault;
 pub use headers::{finish, start};
+pub use objects::{compound_fields, has_no_child, only_child, simple_fields};
 pub use reading::read_tree;
 pub use tree::{Tree, Trees};
+pub use written::begin;
 
 #[cfg(test)]
 mod tests;

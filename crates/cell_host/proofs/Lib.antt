@@ -1,0 +1,3 @@
+mod Words
+mod RequestLaws
+mod OneAnswer

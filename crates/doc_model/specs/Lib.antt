@@ -1,0 +1,5 @@
+pub mod Drawing
+pub mod Fronts
+pub mod Requests
+pub mod RequestParts
+pub mod Responses
