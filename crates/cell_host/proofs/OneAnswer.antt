@@ -5,10 +5,10 @@ use Rattle.stream_objects.specs.declared.tree.Tree.{Tree}
 use Rattle.stream_objects.specs.declared.tree.Tree.TheViews.{out-Tree}
 use Rattle.stream_objects.specs.declared.fault.TreeFault.{TreeFault}
 use Rattle.stream_objects.specs.declared.fault.TreeFault.TheVariants as trees
+use Rattle.stream_objects.specs.Answers.{IsFaultAt}
 use Rattle.stream_objects.specs.Answers as stream
-use Rattle.stream_objects.specs.Trees.{IsTreeAt, IsObject, EndsBehind}
-use Rattle.stream_objects.specs.Faults.{IsFaultAt}
-use Rattle.stream_objects.proofs.Stops.{one_answer}
+use Rattle.stream_objects.specs.Trees.{IsTreeAt}
+use Rattle.stream_objects.proofs.Stops.{one_answer, object_inside}
 use Rattle.stream_objects.specs.Parts.{IsFirstBroken}
 use Rattle.compact_values.proofs.Takes.{some_pair}
 use Rattle.stream_objects.proofs.Broken.{Judges, one_broken, none_broken}
@@ -58,18 +58,10 @@ module _ (bytes : List ℕ) (fits : IsBytes bytes) where
       let e : failed f ≡ failed g = one_stands v (failed f) (failed g) p q (λ e. x cc) (λ e. y cc) in
       cc
 
-  -- no tree ends behind the input
-  tree_inside : (t : Tree) (next : ℕ) → IsTreeAt bytes t 12 next → next ≤ length bytes
-  unfolding IsObject
-  tree_inside t next p = go (out-Tree t).compound p.object.1 where
-    go : (m : Bool) → EndsBehind (IsObject 11 bytes) bytes (out-Tree t) m next → next ≤ length bytes
-    go false h = omega (arith, h.1, p.object.0.inside)
-    go true h = h.2.inside
-
   -- a tree that takes all of the input
   pub whole_is : (t : Tree) (next : ℕ) → (next < length bytes → ⊥) → IsTreeAt bytes t 12 next → IsTreeAt bytes t 12 (length bytes)
   whole_is t next ge p =
-      let end : next ≡ length bytes = omega (arith, tree_inside t next p, ge) in
+      let end : next ≡ length bytes = omega (arith, object_inside bytes 12 t 12 next p.object, ge) in
       subst (λ (n : ℕ). IsTreeAt bytes t 12 n) end p
 
   pub answer_is : HasVersions bytes → HasSignature bytes → (t : Tree) → IsTreeAt bytes t 12 (length bytes) → (r : Result (List DrawRequest) WireFault) → GivesAll r (request_at bytes t) → IsAnswer bytes r

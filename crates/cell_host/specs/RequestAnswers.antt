@@ -3,7 +3,7 @@ use Rattle.std.specs.Prelude.{◌≡◌, ◌≢◌, ◌⊎◌, ℕ, ◌<◌, Lis
 use Rattle.stream_objects.specs.declared.tree.Tree.{Tree}
 use Rattle.stream_objects.specs.declared.fault.TreeFault.TheVariants as trees
 use Rattle.stream_objects.specs.Trees.{IsTreeAt}
-use Rattle.stream_objects.specs.Faults.{IsFaultAt}
+use Rattle.stream_objects.specs.Answers.{IsFaultAt}
 use Rattle.stream_objects.specs.Parts.{IsFirstBroken}
 use Rattle.doc_model.specs.Fronts.{HasVersions, HasSignature}
 use Rattle.doc_model.specs.Requests.{IsRequest}

@@ -34,7 +34,9 @@ pub enum Reply {
         greatest: u64,
     },
     /// The rules of the document refuse the call.
-    Refused { code: Code },
+    Refused {
+        code: Code,
+    },
 }
 
 /// Why a call was refused. Each has a number in the cell error of a response (MS-FSSHTTPB 2.2.3.2).
