@@ -2,7 +2,9 @@
 //!
 //! - `seq`: `Seq<T>`, the one list type, with `Octets`; exact comparison and copying
 //! - `fault`: why no value could be had
+//! - `text`: `Text`, a text seen as its characters, and `Names`
 //! - `guid`: GUIDs, their 16 bytes and their texts
+//! - `ids`: extended GUIDs, serial numbers, cell ids, and their lists
 //! - `span`: a part of the input
 //! - `numbers`: numbers as bytes, the least first
 //! - `compact`: compact integers both ways
@@ -12,17 +14,21 @@
 mod compact;
 mod fault;
 mod guid;
+mod ids;
 pub mod laws;
 mod numbers;
 mod seq;
 mod span;
+mod text;
 
 pub use compact::{read_compact, write_compact};
 pub use fault::{NoMemory, ValueFault};
 pub use guid::{Guid, guid_bytes, guid_of, guid_of_text};
+pub use ids::{CellId, CellIds, ExGuid, Ids, Serial};
 pub use numbers::{append_low_bytes, number_of};
 pub use seq::{Copied, Octets, Same, Seq};
 pub use span::Span;
+pub use text::{Names, Text};
 
 #[cfg(test)]
 mod tests;
