@@ -5,3 +5,8 @@ pub mod GuidBytes
 pub mod Reading
 pub mod Both
 pub mod GuidText
+pub mod Kinds
+pub mod Ids
+pub mod Items
+pub mod IdReading
+pub mod Placed

@@ -6,13 +6,16 @@
 //! - `guid`: GUIDs, their 16 bytes and their texts
 //! - `ids`: extended GUIDs, serial numbers, cell ids, and their lists
 //! - `span`: a part of the input
+//! - `form`: numbers in fields whose low bits say in which form they are
 //! - `numbers`: numbers as bytes, the least first
 //! - `compact`: compact integers both ways
 //! - `laws`: what holds of the spellings themselves
 #![tactic(auto)]
 
 mod compact;
+mod exguid;
 mod fault;
+mod form;
 mod guid;
 mod ids;
 pub mod laws;
