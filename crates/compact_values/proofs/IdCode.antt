@@ -1,5 +1,5 @@
 -- The readers of GUIDs, extended GUIDs and serial numbers recognise their spellings.
-use Rattle.std.proofs.Common.{◌≡◌, ℕ, zero, suc, ◌+◌, ◌-◌, ◌^◌, ◌<◌, ◌≤◌, Bool, true, false, inl, inr, List, [], ◌∷◌, ◌++◌, length, take, drop, Option, Some, None, refl, sym, ap, subst, ◌∙◌, append_assoc, arith}
+use Rattle.std.proofs.Common.{◌≡◌, ◌≢◌, ℕ, zero, suc, ◌+◌, ◌-◌, ◌^◌, ◌<◌, ◌≤◌, Bool, true, false, inl, inr, List, [], ◌∷◌, ◌++◌, length, take, drop, Option, Some, None, Err, refl, sym, ap, subst, ◌∙◌, append_assoc, arith}
 use Rattle.std.specs.Prelude.{replicate, nat_eq}
 use Rattle.std.proofs.lemmas.Bool.{cases_lt, lt-ltb, le-ltb, ne_eqb}
 use Rattle.std.proofs.lemmas.Bool.Decides.{eqb_tells}
@@ -7,12 +7,13 @@ use Rattle.std.proofs.lemmas.List.{take_at, take-append-le, length-append, lengt
 use Rattle.std.proofs.Math.Seq.{take-length}
 use Rattle.compact_values.specs.Spelled.{EndsInside}
 use Rattle.compact_values.specs.Kinds.{SpellsBy}
-use Rattle.compact_values.specs.Both.{SpellsBoth, read_both}
+use Rattle.compact_values.specs.Both.{SpellsBoth, read_behind, read_then, read_both}
 use Rattle.compact_values.specs.Compact.{little_endian}
-use Rattle.compact_values.specs.Reading.{Reading, Value, Cut, Malformed, number_of}
+use Rattle.compact_values.specs.Reading.{Reading, Value, Cut, Malformed, number_of, answer_at}
 use Rattle.compact_values.specs.GuidBytes.{guid_bytes, guid_number}
 use Rattle.compact_values.specs.Ids.{FitsGuid, FitsExGuid, FitsSerial, SpellsGuid, SpellsExGuid, SpellsSerial, exguid_value, exguid, serial}
 use Rattle.compact_values.specs.IdReading.{read_as, null_or, guid_at, long_at, mark_at, exguid_value_at, to_exguid, exguid_at, to_serial, serial_at}
+use Rattle.compact_values.specs.declared.fault.ValueFault.{ValueFault}
 use Rattle.compact_values.specs.declared.guid.Guid.{Guid}
 use Rattle.compact_values.specs.declared.ids.ExGuid.{ExGuid}
 use Rattle.compact_values.specs.declared.ids.ExGuid.TheVariants as exguids
@@ -23,6 +24,7 @@ use Rattle.compact_values.proofs.GuidLemmas.{guid_back, guid_again, guid_number_
 use Rattle.compact_values.proofs.Fields.{IsBytes-append, IsBytes-take}
 use Rattle.compact_values.proofs.Codes.{Recognises, cases_reading}
 use Rattle.compact_values.proofs.BothCode.{both_code}
+use Rattle.compact_values.proofs.ReadingSteps.{as_fault, second_fault, not_null}
 use Rattle.compact_values.proofs.IdRows.{SpellsValue, value_code, value_at_zero, value_at_end}
 
 -- ---- a value by another name
@@ -186,10 +188,10 @@ module _ {A : Type 0} (Spells : A → List ℕ → Type 0) (read : List ℕ → 
             (value (b ++ zeros), zeros, omega (arith, count), spelled (b ++ zeros) (IsBytes-append b zeros fits (zero_bytes n)) len)
         | inr long ↦ let bad = is_value b long in absurd cc
       ] where
-    zero_bytes : (n : ℕ) → IsBytes (replicate n 0)
-    zero_bytes zero i = omega arith
-    zero_bytes (suc n) zero = omega arith
-    zero_bytes (suc n) (suc i) = zero_bytes n i
+        zero_bytes : (n : ℕ) → IsBytes (replicate n 0)
+        zero_bytes zero i = omega arith
+        zero_bytes (suc n) zero = omega arith
+        zero_bytes (suc n) (suc i) = zero_bytes n i
 
   stays_width : (b more : List ℕ) → IsBytes b → read b ≡ Malformed → read (b ++ more) ≡ Malformed
   stays_width b more fits e =
@@ -213,10 +215,10 @@ guid_code = width_code SpellsGuid guid_at 16 guid_of
     (λ b long. rw (le-ltb (length b) 16 long) refl)
     (λ b fits len. record { range = guid_number_below b fits; bytes_are = sym (guid_back b len fits) })
     (λ v b s. (ap (λ (l : List ℕ). length l) s.bytes_are, unspelled v b s)) where
-  unspelled : (v : Guid) (b : List ℕ) → SpellsGuid v b → guid_of b ≡ v
-  unspelled v b s =
-      let make : ℕ → Guid = λ n. record { number = n } in
-      ap make (ap guid_number s.bytes_are ∙ guid_again v.number s.range)
+      unspelled : (v : Guid) (b : List ℕ) → SpellsGuid v b → guid_of b ≡ v
+      unspelled v b s =
+          let make : ℕ → Guid = λ n. record { number = n } in
+          ap make (ap guid_number s.bytes_are ∙ guid_again v.number s.range)
 
 -- ---- numbers of 8 bytes
 
@@ -231,10 +233,10 @@ long_code = width_code SpellsLong long_at 8 number_of
     (λ b long. rw (le-ltb (length b) 8 long) refl)
     spelled
     (λ v b s. (ap (λ (l : List ℕ). length l) s.bytes_are ∙ length-little_endian 8 v, ap number_of s.bytes_are ∙ number_of-little_endian 8 v (omega (arith, s.range)))) where
-  spelled : (b : List ℕ) → IsBytes b → length b ≡ 8 → SpellsLong (number_of b) b
-  spelled b fits len =
-      let small : number_of b < 256 ^ 8 = subst (λ (n : ℕ). number_of b < 256 ^ n) len (number_of_below b fits) in
-      record { range = omega arith; bytes_are = sym (ap (λ (n : ℕ). little_endian n (number_of b)) (sym len) ∙ little_endian-number_of b fits) }
+      spelled : (b : List ℕ) → IsBytes b → length b ≡ 8 → SpellsLong (number_of b) b
+      spelled b fits len =
+          let small : number_of b < 256 ^ 8 = subst (λ (n : ℕ). number_of b < 256 ^ n) len (number_of_below b fits) in
+          record { range = omega arith; bytes_are = sym (ap (λ (n : ℕ). little_endian n (number_of b)) (sym len) ∙ little_endian-number_of b fits) }
 
 -- ---- the mark of a serial number
 
@@ -290,26 +292,26 @@ pub exguid_code : Recognises SpellsExGuid exguid_at
 unfolding exguid_at of_exguid
 exguid_code = as_code (SpellsOrNull (SpellsBoth SpellsValue SpellsGuid)) (null_or (read_both exguid_value_at guid_at)) SpellsExGuid to_exguid of_exguid there onward backward
     (null_code (SpellsBoth SpellsValue SpellsGuid) (read_both exguid_value_at guid_at) id_at_zero id_at_end value_and_guid) where
-  there : (b : ExGuid) → to_exguid (of_exguid b) ≡ b
-  there exguids.Null = refl
-  there (exguids.Id guid value) = refl
+      there : (b : ExGuid) → to_exguid (of_exguid b) ≡ b
+      there exguids.Null = refl
+      there (exguids.Id guid value) = refl
 
-  onward : (a : Option (ℕ × Guid)) (bytes : List ℕ) → SpellsOrNull (SpellsBoth SpellsValue SpellsGuid) a bytes → SpellsExGuid (to_exguid a) bytes
-  onward None bytes s = record { range = tt; bytes_are = s }
-  onward (Some x) bytes s = record {
-    range = (s.second.range, s.first.range);
-    bytes_are = s.bytes_are ∙ ap (λ (l : List ℕ). l ++ s.back) s.first.bytes_are ∙ ap (λ (l : List ℕ). exguid_value x.0 ++ l) s.second.bytes_are;
-  }
+      onward : (a : Option (ℕ × Guid)) (bytes : List ℕ) → SpellsOrNull (SpellsBoth SpellsValue SpellsGuid) a bytes → SpellsExGuid (to_exguid a) bytes
+      onward None bytes s = record { range = tt; bytes_are = s }
+      onward (Some x) bytes s = record {
+        range = (s.second.range, s.first.range);
+        bytes_are = s.bytes_are ∙ ap (λ (l : List ℕ). l ++ s.back) s.first.bytes_are ∙ ap (λ (l : List ℕ). exguid_value x.0 ++ l) s.second.bytes_are;
+      }
 
-  backward : (b : ExGuid) (bytes : List ℕ) → SpellsExGuid b bytes → SpellsOrNull (SpellsBoth SpellsValue SpellsGuid) (of_exguid b) bytes
-  backward exguids.Null bytes s = s.bytes_are
-  backward (exguids.Id guid value) bytes s = record {
-    front = exguid_value value;
-    back = guid_bytes guid.number;
-    first = record { range = s.range.1; bytes_are = refl };
-    second = record { range = s.range.0; bytes_are = refl };
-    bytes_are = s.bytes_are;
-  }
+      backward : (b : ExGuid) (bytes : List ℕ) → SpellsExGuid b bytes → SpellsOrNull (SpellsBoth SpellsValue SpellsGuid) (of_exguid b) bytes
+      backward exguids.Null bytes s = s.bytes_are
+      backward (exguids.Id guid value) bytes s = record {
+        front = exguid_value value;
+        back = guid_bytes guid.number;
+        first = record { range = s.range.1; bytes_are = refl };
+        second = record { range = s.range.0; bytes_are = refl };
+        bytes_are = s.bytes_are;
+      }
 
 -- ---- serial numbers
 
@@ -339,32 +341,78 @@ pub serial_code : Recognises SpellsSerial serial_at
 unfolding serial_at of_serial
 serial_code = as_code (SpellsOrNull SpellsNumber) (null_or (read_both mark_at (read_both guid_at long_at))) SpellsSerial to_serial of_serial there onward backward
     (null_code SpellsNumber (read_both mark_at (read_both guid_at long_at)) number_at_zero number_at_end number_code) where
-  there : (b : Serial) → to_serial (of_serial b) ≡ b
-  there serials.Null = refl
-  there (serials.Number guid value) = refl
+      there : (b : Serial) → to_serial (of_serial b) ≡ b
+      there serials.Null = refl
+      there (serials.Number guid value) = refl
 
-  onward : (a : Option (Unit {0} × (Guid × ℕ))) (bytes : List ℕ) → SpellsOrNull SpellsNumber a bytes → SpellsSerial (to_serial a) bytes
-  onward None bytes s = record { range = tt; bytes_are = s }
-  onward (Some x) bytes s =
-      let inner : s.back ≡ guid_bytes x.1.0.number ++ little_endian 8 x.1.1 = s.second.bytes_are ∙ ap (λ (l : List ℕ). l ++ s.second.back) s.second.first.bytes_are
-      ∙ ap (λ (l : List ℕ). guid_bytes x.1.0.number ++ l) s.second.second.bytes_are in
-      record {
-        range = (s.second.first.range, s.second.second.range);
-        bytes_are = s.bytes_are ∙ ap (λ (l : List ℕ). l ++ s.back) s.first ∙ ap (λ (l : List ℕ). 128 ∷ l) inner;
+      onward : (a : Option (Unit {0} × (Guid × ℕ))) (bytes : List ℕ) → SpellsOrNull SpellsNumber a bytes → SpellsSerial (to_serial a) bytes
+      onward None bytes s = record { range = tt; bytes_are = s }
+      onward (Some x) bytes s =
+          let inner : s.back ≡ guid_bytes x.1.0.number ++ little_endian 8 x.1.1 = s.second.bytes_are ∙ ap (λ (l : List ℕ). l ++ s.second.back) s.second.first.bytes_are
+          ∙ ap (λ (l : List ℕ). guid_bytes x.1.0.number ++ l) s.second.second.bytes_are in
+          record {
+            range = (s.second.first.range, s.second.second.range);
+            bytes_are = s.bytes_are ∙ ap (λ (l : List ℕ). l ++ s.back) s.first ∙ ap (λ (l : List ℕ). 128 ∷ l) inner;
+          }
+
+      backward : (b : Serial) (bytes : List ℕ) → SpellsSerial b bytes → SpellsOrNull SpellsNumber (of_serial b) bytes
+      backward serials.Null bytes s = s.bytes_are
+      backward (serials.Number guid value) bytes s = record {
+        front = 128 ∷ [];
+        back = guid_bytes guid.number ++ little_endian 8 value;
+        first = refl;
+        second = record {
+          front = guid_bytes guid.number;
+          back = little_endian 8 value;
+          first = record { range = s.range.0; bytes_are = refl };
+          second = record { range = s.range.1; bytes_are = refl };
+          bytes_are = refl;
+        };
+        bytes_are = s.bytes_are;
       }
 
-  backward : (b : Serial) (bytes : List ℕ) → SpellsSerial b bytes → SpellsOrNull SpellsNumber (of_serial b) bytes
-  backward serials.Null bytes s = s.bytes_are
-  backward (serials.Number guid value) bytes s = record {
-    front = 128 ∷ [];
-    back = guid_bytes guid.number ++ little_endian 8 value;
-    first = refl;
-    second = record {
-      front = guid_bytes guid.number;
-      back = little_endian 8 value;
-      first = record { range = s.range.0; bytes_are = refl };
-      second = record { range = s.range.1; bytes_are = refl };
-      bytes_are = refl;
-    };
-    bytes_are = s.bytes_are;
-  }
+-- ---- readers that only run short
+
+pub guid_at-forms : (b : List ℕ) → guid_at b ≢ Malformed
+unfolding guid_at
+guid_at-forms b e =
+    elim (cases_lt (length b) 16) [
+      | inl lt ↦ let bad = rw (lt-ltb (length b) 16 lt) at e in absurd cc
+      | inr long ↦ let bad = rw (le-ltb (length b) 16 long) at e in absurd cc
+    ]
+
+pub long_at-forms : (b : List ℕ) → long_at b ≢ Malformed
+unfolding long_at
+long_at-forms b e =
+    elim (cases_lt (length b) 8) [
+      | inl lt ↦ let bad = rw (lt-ltb (length b) 8 lt) at e in absurd cc
+      | inr long ↦ let bad = rw (le-ltb (length b) 8 long) at e in absurd cc
+    ]
+
+-- ---- a serial number whose fields run short
+
+guid_and_long-forms : (b : List ℕ) → read_both guid_at long_at b ≢ Malformed
+guid_and_long-forms b e = go (guid_at b) refl e where
+  behind : (a : Guid) (used : ℕ) (r : Reading ℕ) → r ≢ Malformed → read_behind a used r ≢ Malformed
+  behind a used (Value v more) never f = absurd cc
+  behind a used Cut never f = absurd cc
+  behind a used Malformed never f = never refl
+
+  go : (r : Reading Guid) → guid_at b ≡ r → read_then r long_at b ≢ Malformed
+  go (Value a used) d f = behind a used (long_at (drop used b)) (long_at-forms (drop used b)) f
+  go Cut d f = absurd cc
+  go Malformed d f = guid_at-forms b d
+
+pub serial_fault : (bytes : List ℕ) (at : ℕ) (rest : List ℕ) (fault : ValueFault) → drop at bytes ≡ 128 ∷ rest
+    → Err fault ≡ answer_at (length bytes) (at + 1) (read_both guid_at long_at (drop (at + 1) bytes)) → Err fault ≡ answer_at (length bytes) at (serial_at (drop at bytes))
+unfolding serial_at mark_at
+serial_fault bytes at rest fault d e =
+    let number : List ℕ → Reading (Unit {0} × (Guid × ℕ)) = read_both mark_at (read_both guid_at long_at) in
+    let marked : mark_at (drop at bytes) ≡ Value tt 1 = rw d refl in
+    let some : null_or number (drop at bytes) ≡ read_as Some (number (drop at bytes)) = rw d (not_null number 128 rest (λ z. absurd (omega arith))) in
+    as_fault to_serial (length bytes) at (null_or number (drop at bytes)) fault (
+    rw some (
+    as_fault Some (length bytes) at (number (drop at bytes)) fault
+    (second_fault mark_at (read_both guid_at long_at) bytes at tt (at + 1) 1 marked refl fault guid_and_long-forms e)
+    )
+    )

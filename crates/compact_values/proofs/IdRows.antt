@@ -134,8 +134,8 @@ again v b more s =
     let width = suc (row_field r.0).more_bytes in
     let is : b ≡ little_endian width n = s.bytes_are ∙ value_by_row r.0 v r.1 r.2 in
     rw is (
-      read_in r.0 (n % 256) (little_endian (row_field r.0).more_bytes (n / 256) ++ more) (omega arith) ((arithmetic r.0).marked v)
-      ∙ again_field (row_field r.0) (arithmetic r.0) v more r.1 r.2 ∙ ap (λ (k : ℕ). Value v k) (sym (length-little_endian width n))
+    read_in r.0 (n % 256) (little_endian (row_field r.0).more_bytes (n / 256) ++ more) (omega arith) ((arithmetic r.0).marked v)
+    ∙ again_field (row_field r.0) (arithmetic r.0) v more r.1 r.2 ∙ ap (λ (k : ℕ). Value v k) (sym (length-little_endian width n))
     )
 
 takes : (b : List ℕ) (v used : ℕ) → IsBytes b → exguid_value_at b ≡ Value v used → (used ≤ length b) × SpellsValue v (take used b)

@@ -9,6 +9,7 @@
 //! - `form`: numbers in fields whose low bits say in which form they are
 //! - `numbers`: numbers as bytes, the least first
 //! - `compact`: compact integers both ways
+//! - `exguid`, `serial`: GUIDs, extended GUIDs and serial numbers both ways
 //! - `laws`: what holds of the spellings themselves
 #![tactic(auto)]
 
@@ -21,15 +22,18 @@ mod ids;
 pub mod laws;
 mod numbers;
 mod seq;
+mod serial;
 mod span;
 mod text;
 
 pub use compact::{read_compact, write_compact};
+pub use exguid::{read_exguid, read_guid, write_exguid, write_guid};
 pub use fault::{NoMemory, ValueFault};
 pub use guid::{Guid, guid_bytes, guid_of, guid_of_text};
 pub use ids::{CellId, CellIds, ExGuid, Ids, Serial};
 pub use numbers::{append_low_bytes, number_of};
 pub use seq::{Copied, Octets, Same, Seq};
+pub use serial::{read_serial, write_serial};
 pub use span::Span;
 pub use text::{Names, Text};
 
