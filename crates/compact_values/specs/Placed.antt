@@ -62,6 +62,10 @@ LacksInCells = LacksInArray FitsCellId cell_id LacksInCellId
 abbrev pub IsOutOfFormIn : {V : Type 0} → (List ℕ → ℕ → Type 0) → List ℕ → ℕ → Result (V × ℕ) ValueFault → Type 0
 IsOutOfFormIn Lacks bytes at answer = (place : ℕ) → (answer ≡ Err (OutOfForm place)) ↔ ((at ≤ place) × Lacks (drop at bytes) (place - at))
 
+-- OutOfForm comes, at some place, exactly where neither a spelling nor a part of one that the input cuts off begins at `at`.
+abbrev pub IsRefusedAt : {V : Type 0} → (V → List ℕ → Type 0) → List ℕ → ℕ → Result (V × ℕ) ValueFault → Type 0
+IsRefusedAt Spells bytes at answer = ((place : ℕ) × (answer ≡ Err (OutOfForm place))) ↔ HasNoForm Spells (drop at bytes)
+
 -- ---- reading
 
 -- a value and how many bytes it takes; or that the input ends inside it; or how many bytes stand before the first value without a form
