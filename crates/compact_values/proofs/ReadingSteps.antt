@@ -61,7 +61,7 @@ as_fault to len at Malformed fault e = cc
 
 -- ---- two values
 
-drop-both : (m n : ℕ) (bytes : List ℕ) → drop (m + n) bytes ≡ drop n (drop m bytes)
+pub drop-both : (m n : ℕ) (bytes : List ℕ) → drop (m + n) bytes ≡ drop n (drop m bytes)
 drop-both zero n bytes = let none : 0 + n ≡ n = omega arith in rw none refl
 drop-both (suc m) n [] = rw (drop_all {X = ℕ} n [] (omega arith), drop_all {X = ℕ} (suc m + n) [] (omega arith)) refl
 drop-both (suc m) n (b ∷ bytes) =

@@ -10,3 +10,4 @@ pub mod Ids
 pub mod Items
 pub mod IdReading
 pub mod Placed
+pub mod ItemReading

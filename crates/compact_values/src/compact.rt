@@ -1,4 +1,4 @@
-ghost use Rattle.std.specs.Prelude.{◌≡◌, ◌≢◌, ℕ, ◌+◌, ◌*◌, ◌/◌, ◌^◌, ◌<◌, ◌≤◌, ◌++◌, length, drop, OnOk, OnErr, Err};
+ghost use Rattle.std.specs.Prelude.{◌≡◌, ◌≢◌, ℕ, ◌+◌, ◌*◌, ◌/◌, ◌^◌, ◌<◌, ◌≤◌, ◌++◌, length, drop, IfOk, OnOk, OnErr, Err};
 ghost use Rattle.compact_values.specs.Compact.{compact, little_endian, SpellsCompact};
 ghost use Rattle.compact_values.specs.Answers.{IsFoundAt, IsShortAt, IsOutOfFormAt};
 ghost use Rattle.compact_values.specs.Reading.{form_of, IsUsable, compact_at, answer_at};
@@ -96,7 +96,8 @@ fn form_of(first: u8) -> Form
 #[tactic(auto, unfolding(crate::specs::Reading::compact_at))]
 fn compact_at(bytes: &[u8], at: usize) -> Result<(u64, usize), ValueFault>
     requires { at ≤ length bytes.now }
-    ensures { result ≡ answer_at (length bytes.now) at (compact_at (drop at bytes.now)) }
+    ensures exact { result ≡ answer_at (length bytes.now) at (compact_at (drop at bytes.now)) }
+    ensures inside { IfOk result (λ x. x.1 ≤ length bytes.now) }
 {
     match bytes[at..].first() {
         Some(first) => read_field(bytes, at, form_of(*first)),
@@ -107,8 +108,9 @@ fn compact_at(bytes: &[u8], at: usize) -> Result<(u64, usize), ValueFault>
 /// Reads the compact integer at a place, and gives the place after it.
 pub fn read_compact(bytes: &[u8], at: usize) -> Result<(u64, usize), ValueFault>
     requires { at ≤ length bytes.now }
-    // Ok comes exactly for a spelling.
+    // Ok comes exactly for a spelling, which is then within the input.
     ensures found { IsFoundAt SpellsCompact bytes.now at result }
+    ensures inside { IfOk result (λ x. x.1 ≤ length bytes.now) }
     // Short comes exactly where the input ends inside one.
     ensures short { IsShortAt SpellsCompact bytes.now at result }
     // OutOfForm comes exactly where neither is so.

@@ -1,5 +1,5 @@
 // Numbers in fields whose low bits say in which form they are.
-ghost use Rattle.std.specs.Prelude.{◌≡◌, ◌/◌, ◌^◌, ◌≤◌, length, drop};
+ghost use Rattle.std.specs.Prelude.{◌≡◌, ◌/◌, ◌^◌, ◌≤◌, length, drop, IfOk};
 ghost use Rattle.compact_values.specs.Reading.{number_of, IsUsable, in_form, answer_at};
 
 use crate::fault::ValueFault;
@@ -30,7 +30,8 @@ fn number_in(form: Form, bytes: &[u8]) -> u64
 pub(crate) fn read_field(bytes: &[u8], at: usize, form: Form) -> Result<(u64, usize), ValueFault>
     requires place { at ≤ length bytes.now }
     requires usable { IsUsable form }
-    ensures { result ≡ answer_at (length bytes.now) at (in_form form (drop at bytes.now)) }
+    ensures exact { result ≡ answer_at (length bytes.now) at (in_form form (drop at bytes.now)) }
+    ensures inside { IfOk result (λ x. x.1 ≤ length bytes.now) }
 {
     let rest = &bytes[at..];
     if rest.len() < form.width {

@@ -13,12 +13,15 @@
 //! - `laws`: what holds of the spellings themselves
 #![tactic(auto)]
 
+mod arrays;
+mod cell_id;
 mod compact;
 mod exguid;
 mod fault;
 mod form;
 mod guid;
 mod ids;
+mod item;
 pub mod laws;
 mod numbers;
 mod seq;
@@ -26,11 +29,13 @@ mod serial;
 mod span;
 mod text;
 
+pub use cell_id::{read_cell_id, write_cell_id};
 pub use compact::{read_compact, write_compact};
 pub use exguid::{read_exguid, read_guid, write_exguid, write_guid};
 pub use fault::{NoMemory, ValueFault};
 pub use guid::{Guid, guid_bytes, guid_of, guid_of_text};
 pub use ids::{CellId, CellIds, ExGuid, Ids, Serial};
+pub use item::{read_item, write_item};
 pub use numbers::{append_low_bytes, number_of};
 pub use seq::{Copied, Octets, Same, Seq};
 pub use serial::{read_serial, write_serial};
