@@ -10,6 +10,7 @@
 //! - `numbers`: numbers as bytes, the least first
 //! - `compact`: compact integers both ways
 //! - `exguid`, `serial`: GUIDs, extended GUIDs and serial numbers both ways
+//! - `cell_id`, `item`, `arrays`: cell ids, binary items and arrays both ways
 //! - `laws`: what holds of the spellings themselves
 #![tactic(auto)]
 
@@ -29,6 +30,7 @@ mod serial;
 mod span;
 mod text;
 
+pub use arrays::{read_cells, read_ids, write_cells, write_ids};
 pub use cell_id::{read_cell_id, write_cell_id};
 pub use compact::{read_compact, write_compact};
 pub use exguid::{read_exguid, read_guid, write_exguid, write_guid};
