@@ -35,7 +35,7 @@ pub use cell_id::{read_cell_id, write_cell_id};
 pub use compact::{read_compact, write_compact};
 pub use exguid::{read_exguid, read_guid, write_exguid, write_guid};
 pub use fault::{NoMemory, ValueFault};
-pub use guid::{Guid, guid_bytes, guid_of, guid_of_text};
+pub use guid::{Guid, guid_bytes, guid_of, guid_of_text, guid_text};
 pub use ids::{CellId, CellIds, ExGuid, Ids, Serial};
 pub use item::{read_item, write_item};
 pub use numbers::{append_low_bytes, number_of};
