@@ -1,18 +1,18 @@
 -- The reader of arrays recognises their spellings, and finds the first item without a form, where the reader of items does.
-use Rattle.std.proofs.Common.{◌≡◌, ◌⊎◌, ℕ, zero, suc, ◌+◌, ◌≤◌, ◌<◌, ◌^◌, inl, inr, List, [], ◌∷◌, ◌++◌, length, take, drop, refl, sym, ap, subst, ◌∙◌, append_assoc, arith}
+use Rattle.std.proofs.Common.{◌≡◌, ℕ, zero, suc, ◌+◌, ◌≤◌, ◌<◌, ◌^◌, inl, inr, List, [], ◌∷◌, ◌++◌, length, take, drop, refl, sym, ap, subst, ◌∙◌, append_assoc, arith}
 use Rattle.std.specs.List.{AllByRecursion, flat_map}
 use Rattle.std.specs.Prelude.{replicate}
 use Rattle.std.proofs.lemmas.List.{append-nil, take-append-drop, length-take, length-append, take_at, drop_at, length-replicate}
 use Rattle.compact_values.specs.Compact.{compact, SpellsCompact}
 use Rattle.compact_values.specs.Kinds.{SpellsBy}
-use Rattle.compact_values.specs.Items.{FitsArray, SpellsArray, array}
+use Rattle.compact_values.specs.Items.{SpellsArray}
 use Rattle.compact_values.specs.Reading.{Reading, Value, Cut, Malformed, compact_at}
 use Rattle.compact_values.specs.Spelled.{EndsInside}
-use Rattle.compact_values.specs.Placed.{LacksItself, LacksBehind, LacksInItems, LacksInArray, PartReading, Whole, Ends, NoForm, item_and, items_at, array_behind, array_at}
+use Rattle.compact_values.specs.Placed.{LacksInItems, LacksInArray, PartReading, Whole, Ends, NoForm, joined, item_and, items_at, array_behind, array_at}
 use Rattle.compact_values.proofs.LittleEndian.{IsBytes}
-use Rattle.compact_values.proofs.Codes.{Recognises, IsBytes-drop, cases_reading}
+use Rattle.compact_values.proofs.Codes.{IsBytes-drop, cases_reading}
 use Rattle.compact_values.proofs.CompactCode.{compact_code}
-use Rattle.compact_values.proofs.Parts.{IsBytes-behind, no_form, is_malformed, joined, joined_value, RecognisesParts, cases_parts}
+use Rattle.compact_values.proofs.Parts.{IsBytes-behind, no_form, is_malformed, joined_value, RecognisesParts, cases_parts}
 
 module _ {V : Type 0} (InRange : V → Type 0) (spelling : V → List ℕ) (Lacks : List ℕ → ℕ → Type 0) (read : List ℕ → PartReading V)
     (parts : RecognisesParts (SpellsBy InRange spelling) Lacks read) (v0 : V) (in0 : InRange v0) where

@@ -1,5 +1,5 @@
 -- What readers of arrays at places answer, one item after the other.
-use Rattle.std.proofs.Common.{◌≡◌, ◌≢◌, ℕ, suc, ◌+◌, ◌-◌, ◌≤◌, List, [], ◌∷◌, ◌++◌, length, drop, Result, Ok, Err, refl, sym, ap, ◌∙◌, arith}
+use Rattle.std.proofs.Common.{◌≡◌, ℕ, suc, ◌+◌, ◌-◌, ◌≤◌, List, [], ◌∷◌, ◌++◌, length, drop, Ok, Err, refl, sym, ap, ◌∙◌, arith}
 use Rattle.compact_values.specs.Reading.{Reading, Value, Cut, Malformed, compact_at, answer_at}
 use Rattle.compact_values.specs.Placed.{PartReading, Whole, Ends, NoForm, answer_in, single, item_and, items_at, array_behind, array_at}
 use Rattle.compact_values.specs.declared.fault.ValueFault.{ValueFault}

@@ -1,11 +1,11 @@
 -- The reader of cell ids recognises their spellings, and finds the half without a form.
-use Rattle.std.proofs.Common.{◌≡◌, ℕ, ◌+◌, ◌≤◌, inl, inr, List, [], ◌∷◌, ◌++◌, length, take, drop, refl, sym, ap, subst, ◌∙◌, append_assoc, arith}
+use Rattle.std.proofs.Common.{◌≡◌, ℕ, inl, inr, List, [], ◌∷◌, ◌++◌, length, take, drop, refl, sym, ap, subst, ◌∙◌, append_assoc, arith}
 use Rattle.std.proofs.lemmas.List.{take-append-drop, length-take, drop_at}
 use Rattle.compact_values.specs.Both.{SpellsBoth, read_both}
 use Rattle.compact_values.specs.Reading.{Reading, Value, Cut, Malformed}
 use Rattle.compact_values.specs.Ids.{SpellsExGuid, SpellsCellId, exguid}
 use Rattle.compact_values.specs.IdReading.{read_as, exguid_at}
-use Rattle.compact_values.specs.Placed.{LacksItself, LacksBehind, LacksInCellId, PartReading, Whole, Ends, NoForm, second_half, both_halves, cell_id_at}
+use Rattle.compact_values.specs.Placed.{LacksInCellId, Ends, NoForm, joined, second_half, both_halves, cell_id_at}
 use Rattle.compact_values.specs.declared.ids.ExGuid.{ExGuid}
 use Rattle.compact_values.specs.declared.ids.ExGuid.TheVariants as exguids
 use Rattle.compact_values.specs.declared.ids.CellId.{CellId}
@@ -13,7 +13,7 @@ use Rattle.compact_values.proofs.LittleEndian.{IsBytes}
 use Rattle.compact_values.proofs.Codes.{Recognises, IsBytes-drop, cases_reading}
 use Rattle.compact_values.proofs.BothCode.{both_code}
 use Rattle.compact_values.proofs.IdCode.{as_code, exguid_code}
-use Rattle.compact_values.proofs.Parts.{IsBytes-behind, no_form, is_malformed, joined, RecognisesParts}
+use Rattle.compact_values.proofs.Parts.{IsBytes-behind, no_form, is_malformed, RecognisesParts}
 
 cell_of : ExGuid × ExGuid → CellId
 cell_of p = record { first = p.0; second = p.1 }

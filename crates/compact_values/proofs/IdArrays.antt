@@ -1,5 +1,5 @@
 -- The readers of arrays of extended GUIDs and of cell ids recognise their spellings.
-use Rattle.compact_values.specs.Ids.{SpellsExGuid, SpellsCellId, FitsExGuid, FitsCellId, exguid, cell_id}
+use Rattle.compact_values.specs.Ids.{SpellsExGuid, FitsExGuid, FitsCellId, exguid, cell_id}
 use Rattle.compact_values.specs.IdReading.{exguid_at}
 use Rattle.compact_values.specs.Items.{SpellsIds, SpellsCells}
 use Rattle.compact_values.specs.Placed.{LacksItself, LacksInCellId, LacksInIds, LacksInCells, single, cell_id_at, ids_at, cells_at}

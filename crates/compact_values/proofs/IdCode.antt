@@ -1,17 +1,15 @@
 -- The readers of GUIDs, extended GUIDs and serial numbers recognise their spellings.
-use Rattle.std.proofs.Common.{◌≡◌, ◌≢◌, ℕ, zero, suc, ◌+◌, ◌-◌, ◌^◌, ◌<◌, ◌≤◌, Bool, true, false, inl, inr, List, [], ◌∷◌, ◌++◌, length, take, drop, Option, Some, None, Err, refl, sym, ap, subst, ◌∙◌, append_assoc, arith}
+use Rattle.std.proofs.Common.{◌≡◌, ◌≢◌, ℕ, zero, suc, ◌+◌, ◌-◌, ◌^◌, ◌<◌, ◌≤◌, true, false, inl, inr, List, [], ◌∷◌, ◌++◌, length, take, drop, Option, Some, None, Err, refl, sym, ap, subst, ◌∙◌, arith}
 use Rattle.std.specs.Prelude.{replicate, nat_eq}
-use Rattle.std.proofs.lemmas.Bool.{cases_lt, lt-ltb, le-ltb, ne_eqb}
+use Rattle.std.proofs.lemmas.Bool.{cases_lt, lt-ltb, le-ltb}
 use Rattle.std.proofs.lemmas.Bool.Decides.{eqb_tells}
-use Rattle.std.proofs.lemmas.List.{take_at, take-append-le, length-append, length-take, length-replicate}
-use Rattle.std.proofs.Math.Seq.{take-length}
+use Rattle.std.proofs.lemmas.List.{take_at, length-append, length-take, length-replicate}
 use Rattle.compact_values.specs.Spelled.{EndsInside}
-use Rattle.compact_values.specs.Kinds.{SpellsBy}
 use Rattle.compact_values.specs.Both.{SpellsBoth, read_behind, read_then, read_both}
 use Rattle.compact_values.specs.Compact.{little_endian}
 use Rattle.compact_values.specs.Reading.{Reading, Value, Cut, Malformed, number_of, answer_at}
 use Rattle.compact_values.specs.GuidBytes.{guid_bytes, guid_number}
-use Rattle.compact_values.specs.Ids.{FitsGuid, FitsExGuid, FitsSerial, SpellsGuid, SpellsExGuid, SpellsSerial, exguid_value, exguid, serial}
+use Rattle.compact_values.specs.Ids.{SpellsGuid, SpellsExGuid, SpellsSerial, SpellsLong, exguid_value}
 use Rattle.compact_values.specs.IdReading.{read_as, null_or, guid_at, long_at, mark_at, exguid_value_at, to_exguid, exguid_at, to_serial, serial_at}
 use Rattle.compact_values.specs.declared.fault.ValueFault.{ValueFault}
 use Rattle.compact_values.specs.declared.guid.Guid.{Guid}
@@ -221,10 +219,6 @@ guid_code = width_code SpellsGuid guid_at 16 guid_of
           ap make (ap guid_number s.bytes_are ∙ guid_again v.number s.range)
 
 -- ---- numbers of 8 bytes
-
--- The bytes are the number in 8 bytes, the least first.
-abbrev pub SpellsLong : ℕ → List ℕ → Type 0
-SpellsLong = SpellsBy (λ v. v < 2 ^ 64) (little_endian 8)
 
 pub long_code : Recognises SpellsLong long_at
 unfolding long_at

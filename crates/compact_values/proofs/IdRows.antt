@@ -1,11 +1,11 @@
 -- The number of an extended GUID: the rows of its table, and that its reader recognises its spellings.
-use Rattle.std.proofs.Common.{◌≡◌, ℕ, zero, suc, ◌+◌, ◌*◌, ◌-◌, ◌/◌, ◌%◌, ◌^◌, ◌<◌, ◌≤◌, ◌⊎◌, inl, inr, List, [], ◌∷◌, ◌++◌, length, take, Option, Some, None, refl, sym, ap, subst, ◌∙◌, arith}
+use Rattle.std.proofs.Common.{◌≡◌, ℕ, suc, ◌+◌, ◌*◌, ◌/◌, ◌%◌, ◌^◌, ◌<◌, ◌≤◌, ◌⊎◌, inl, inr, List, [], ◌∷◌, ◌++◌, length, take, Option, Some, None, refl, sym, ap, ◌∙◌, arith}
 use Rattle.std.proofs.lemmas.Bool.{cases_eq, cases_lt}
 use Rattle.std.proofs.lemmas.Bool.Decides.{nat_tests}
 use Rattle.compact_values.specs.Spelled.{EndsInside}
 use Rattle.compact_values.specs.Kinds.{SpellsBy}
 use Rattle.compact_values.specs.Compact.{little_endian}
-use Rattle.compact_values.specs.Reading.{Reading, Value, Cut, Malformed, in_form}
+use Rattle.compact_values.specs.Reading.{Value, Cut, Malformed, in_form}
 use Rattle.compact_values.specs.Ids.{exguid_value}
 use Rattle.compact_values.specs.IdReading.{exguid_form, in_some_form, exguid_value_at}
 use Rattle.compact_values.specs.declared.form.Form.{Form}

@@ -1,12 +1,12 @@
 -- The reader of binary items recognises their spellings, and gives where the content stands.
-use Rattle.std.proofs.Common.{◌≡◌, ◌≢◌, ℕ, zero, suc, ◌+◌, ◌-◌, ◌≤◌, ◌<◌, ◌^◌, ◌↔◌, inl, inr, List, [], ◌∷◌, ◌++◌, length, take, drop, Result, Ok, Err, refl, sym, ap, subst, ◌∙◌, append_assoc, arith}
+use Rattle.std.proofs.Common.{◌≡◌, ◌≢◌, ℕ, ◌+◌, ◌-◌, ◌≤◌, ◌<◌, ◌^◌, ◌↔◌, inl, inr, List, ◌++◌, length, take, drop, Result, Ok, Err, refl, sym, ap, subst, ◌∙◌, append_assoc, arith}
 use Rattle.std.specs.Prelude.{replicate}
 use Rattle.std.specs.List.{slice_range}
 use Rattle.std.proofs.lemmas.Bool.{cases_lt, lt-ltb, le-ltb}
-use Rattle.std.proofs.lemmas.List.{append-nil, take-append-drop, length-take, length-drop, length-append, take_at, drop_at, take-append-le, length-replicate}
+use Rattle.std.proofs.lemmas.List.{take-append-drop, length-take, length-drop, length-append, take_at, drop_at, length-replicate}
 use Rattle.compact_values.specs.Answers.{IsShortAt, IsOutOfFormAt}
-use Rattle.compact_values.specs.Compact.{compact, SpellsCompact}
-use Rattle.compact_values.specs.Items.{SpellsItem, IsItemAt, item}
+use Rattle.compact_values.specs.Compact.{compact}
+use Rattle.compact_values.specs.Items.{SpellsItem, IsItemAt}
 use Rattle.compact_values.specs.ItemReading.{content_at, content_behind, item_at, span_answer}
 use Rattle.compact_values.specs.Reading.{Reading, Value, Cut, Malformed, compact_at, answer_at}
 use Rattle.compact_values.specs.Spelled.{IsSpelledAt, EndsInside}
@@ -14,7 +14,7 @@ use Rattle.compact_values.specs.declared.fault.ValueFault.{ValueFault}
 use Rattle.compact_values.specs.declared.fault.ValueFault.TheVariants.{Short, OutOfForm, NoMemory}
 use Rattle.compact_values.specs.declared.span.Span.{Span}
 use Rattle.compact_values.proofs.LittleEndian.{IsBytes}
-use Rattle.compact_values.proofs.Codes.{Recognises, IsBytes-drop, cases_reading, IsFoundAt-of, IsShortAt-of, IsOutOfFormAt-of}
+use Rattle.compact_values.proofs.Codes.{Recognises, cases_reading, IsFoundAt-of, IsShortAt-of, IsOutOfFormAt-of}
 use Rattle.compact_values.proofs.CompactCode.{compact_code}
 use Rattle.compact_values.proofs.BothCode.{take-both}
 use Rattle.compact_values.proofs.ReadingSteps.{drop-both}

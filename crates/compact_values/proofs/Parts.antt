@@ -1,9 +1,9 @@
 -- Readers of values that are made of values, and what follows for their answers.
-use Rattle.std.proofs.Common.{◌≡◌, ◌≢◌, ◌⊎◌, ℕ, suc, ◌+◌, ◌-◌, ◌≤◌, ◌<◌, inl, inr, List, [], ◌∷◌, ◌++◌, length, take, drop, Result, Ok, Err, refl, sym, ap, subst, ◌∙◌, append_assoc, arith}
-use Rattle.std.proofs.lemmas.List.{append-nil, take-append-drop, length-take, drop_at}
+use Rattle.std.proofs.Common.{◌≡◌, ◌≢◌, ◌⊎◌, ℕ, suc, ◌+◌, ◌-◌, ◌≤◌, inl, inr, List, [], ◌∷◌, ◌++◌, length, take, drop, Result, Ok, Err, refl, sym, ap, subst, ◌∙◌, arith}
+use Rattle.std.proofs.lemmas.List.{append-nil, take-append-drop}
 use Rattle.compact_values.specs.Answers.{IsFoundAt, IsShortAt}
 use Rattle.compact_values.specs.Reading.{Reading, Value, Cut, Malformed, answer_at}
-use Rattle.compact_values.specs.Placed.{HasNoForm, LacksItself, IsOutOfFormIn, IsRefusedAt, PartReading, Whole, Ends, NoForm, answer_in, single}
+use Rattle.compact_values.specs.Placed.{HasNoForm, LacksItself, IsOutOfFormIn, IsRefusedAt, PartReading, Whole, Ends, NoForm, joined, answer_in, single}
 use Rattle.compact_values.specs.declared.fault.ValueFault.{ValueFault}
 use Rattle.compact_values.specs.declared.fault.ValueFault.TheVariants.{Short, OutOfForm, NoMemory}
 use Rattle.compact_values.proofs.LittleEndian.{IsBytes}
@@ -32,12 +32,6 @@ module _ {V : Type 0} (Spells : V → List ℕ → Type 0) (read : List ℕ → 
       ]
 
 -- ---- readers with parts
-
--- a reading that forgets which part has no form
-abbrev pub joined : {V : Type 0} → PartReading V → Reading V
-joined (Whole v used) = Value v used
-joined Ends = Cut
-joined (NoForm skipped) = Malformed
 
 -- The reader recognises the spellings of this kind of value, and finds the first part without a form.
 pub record RecognisesParts {V : Type 0} (Spells : V → List ℕ → Type 0) (Lacks : List ℕ → ℕ → Type 0) (read : List ℕ → PartReading V) : Type 0 where

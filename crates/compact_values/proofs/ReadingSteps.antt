@@ -1,5 +1,5 @@
 -- What readers at places answer for values that are read in steps.
-use Rattle.std.proofs.Common.{◌≡◌, ◌≢◌, ℕ, zero, suc, [], ◌∷◌, ◌+◌, ◌-◌, ◌≤◌, inl, inr, List, length, take, drop, Option, Some, Result, Ok, Err, refl, sym, ap, ◌∙◌, arith}
+use Rattle.std.proofs.Common.{◌≡◌, ◌≢◌, ℕ, zero, suc, [], ◌∷◌, ◌+◌, ◌-◌, ◌≤◌, List, length, take, drop, Some, Ok, Err, refl, sym, ap, ◌∙◌, arith}
 use Rattle.std.proofs.lemmas.List.{length-drop, drop_all}
 use Rattle.std.specs.List.{slice_get}
 use Rattle.std.proofs.Math.Seq.{take-length}
@@ -8,9 +8,8 @@ use Rattle.compact_values.specs.Both.{read_behind, read_both}
 use Rattle.compact_values.specs.IdReading.{read_as, null_or}
 use Rattle.compact_values.specs.Reading.{Reading, Value, Cut, Malformed, answer_at}
 use Rattle.compact_values.specs.declared.fault.ValueFault.{ValueFault}
-use Rattle.compact_values.specs.declared.fault.ValueFault.TheVariants.{Short, OutOfForm}
 use Rattle.compact_values.proofs.LittleEndian.{IsBytes}
-use Rattle.compact_values.proofs.Codes.{Recognises, cases_reading, IsBytes-drop}
+use Rattle.compact_values.proofs.Codes.{Recognises, IsBytes-drop}
 
 -- ---- one value
 

@@ -33,6 +33,10 @@ serial (serials.Number guid value) = 0x80 ∷ guid_bytes guid.number ++ little_e
 abbrev pub cell_id : CellId → List ℕ
 cell_id cell = exguid cell.first ++ exguid cell.second
 
+-- The bytes are the number in 8 bytes, the least first.
+abbrev pub SpellsLong : ℕ → List ℕ → Type 0
+SpellsLong = SpellsBy (λ v. v < 2 ^ 64) (little_endian 8)
+
 -- The numbers of the values are in the ranges of their fields.
 abbrev pub FitsGuid : Guid → Type 0
 FitsGuid guid = guid.number < 2 ^ 128

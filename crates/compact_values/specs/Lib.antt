@@ -11,3 +11,5 @@ pub mod Items
 pub mod IdReading
 pub mod Placed
 pub mod ItemReading
+pub mod Sequences
+pub mod Taking

@@ -2,7 +2,6 @@
 use Rattle.std.specs.Prelude.{◌≡◌, ◌≢◌, ◌⊎◌, ℕ, zero, suc, ◌+◌, ◌-◌, ◌≤◌, ◌<◌, List, [], ◌∷◌, ◌++◌, length, drop, Result, Ok, Err, ◌↔◌}
 use Rattle.std.specs.List.{AllByRecursion, flat_map}
 use Rattle.compact_values.specs.Compact.{SpellsCompact}
-use Rattle.compact_values.specs.Kinds.{SpellsBy}
 use Rattle.compact_values.specs.Reading.{Reading, Value, Cut, Malformed, compact_at}
 use Rattle.compact_values.specs.Ids.{SpellsExGuid, FitsExGuid, FitsCellId, exguid, cell_id}
 use Rattle.compact_values.specs.IdReading.{exguid_at}
@@ -79,6 +78,12 @@ abbrev pub answer_in : {V : Type 0} → ℕ → ℕ → PartReading V → Result
 answer_in len at (Whole value used) = Ok (value, at + used)
 answer_in len at Ends = Err (Short len)
 answer_in len at (NoForm skipped) = Err (OutOfForm (at + skipped))
+
+-- a reading that forgets which part has no form
+abbrev pub joined : {V : Type 0} → PartReading V → Reading V
+joined (Whole v used) = Value v used
+joined Ends = Cut
+joined (NoForm skipped) = Malformed
 
 -- a value without parts
 abbrev pub single : {V : Type 0} → Reading V → PartReading V

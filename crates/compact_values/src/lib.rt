@@ -11,6 +11,7 @@
 //! - `compact`: compact integers both ways
 //! - `exguid`, `serial`: GUIDs, extended GUIDs and serial numbers both ways
 //! - `cell_id`, `item`, `arrays`: cell ids, binary items and arrays both ways
+//! - `take`: values from the front of bytes, each with what is behind it
 //! - `laws`: what holds of the spellings themselves
 #![tactic(auto)]
 
@@ -28,6 +29,7 @@ mod numbers;
 mod seq;
 mod serial;
 mod span;
+mod take;
 mod text;
 
 pub use arrays::{read_cells, read_ids, write_cells, write_ids};
@@ -42,6 +44,9 @@ pub use numbers::{append_low_bytes, number_of};
 pub use seq::{Copied, Octets, Same, Seq};
 pub use serial::{read_serial, write_serial};
 pub use span::Span;
+pub use take::{
+    take_byte, take_cell_id, take_compact, take_exguid, take_guid, take_long, take_serial,
+};
 pub use text::{Names, Text};
 
 #[cfg(test)]

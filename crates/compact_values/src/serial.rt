@@ -19,7 +19,7 @@ const MARK: u8 = 0x80;
 
 /// The number of 8 bytes at a place, the least first, and the place after it.
 #[tactic(auto, unfolding(crate::specs::IdReading::long_at))]
-fn long_at(bytes: &[u8], at: usize) -> Result<(u64, usize), ValueFault>
+pub(crate) fn long_at(bytes: &[u8], at: usize) -> Result<(u64, usize), ValueFault>
     requires { at ≤ length bytes.now }
     ensures exact { result ≡ answer_at (length bytes.now) at (long_at (drop at bytes.now)) }
     ensures inside { IfOk result (λ x. x.1 ≤ length bytes.now) }

@@ -1,4 +1,4 @@
-use Rattle.std.proofs.Common.{◌≡◌, ◌+◌, ◌-◌, ◌≤◌, ◌++◌, ◌∷◌, [], suc, sym, ap, ◌∙◌, length, drop, List, ℕ, arith}
+use Rattle.std.proofs.Common.{◌+◌, ◌-◌, sym, ap, ◌∙◌, length, drop, List, ℕ, arith}
 use Rattle.std.proofs.lemmas.Result.{err_from_is_err_and}
 use Rattle.compact_values.specs.Placed.{PartReading, answer_in, items_at, cell_id_at}
 use Rattle.compact_values.specs.declared.ids.CellId.{CellId}

@@ -1,5 +1,5 @@
-use Rattle.std.proofs.Common.{◌≡◌, ◌≤◌, ◌-◌, [], length, drop}
-use Rattle.compact_values.specs.Placed.{items_at, cell_id_at}
+use Rattle.std.proofs.Common.{◌-◌}
+use Rattle.compact_values.specs.Placed.{cell_id_at}
 use Rattle.compact_values.proofs.ArrayLoops.{Underway}
 use Rattle.compact_values.proofs.arrays.some_cells.Given as goal
 

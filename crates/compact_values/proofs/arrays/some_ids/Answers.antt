@@ -1,9 +1,8 @@
-use Rattle.std.proofs.Common.{◌≡◌, ◌+◌, ◌-◌, ◌≤◌, ◌++◌, ◌∷◌, [], suc, sym, ap, ◌∙◌, length, drop, List, ℕ, arith}
-use Rattle.std.proofs.lemmas.Result.{err_from_is_err_and}
+use Rattle.std.proofs.Common.{◌+◌, ◌-◌, sym, ap, ◌∙◌, length, drop, List, ℕ, arith}
 use Rattle.compact_values.specs.IdReading.{exguid_at}
 use Rattle.compact_values.specs.Placed.{PartReading, items_at, single}
 use Rattle.compact_values.specs.declared.ids.ExGuid.{ExGuid}
-use Rattle.compact_values.proofs.ArraySteps.{item_found, item_fault, single_answer}
+use Rattle.compact_values.proofs.ArraySteps.{item_found, single_answer}
 use Rattle.compact_values.proofs.arrays.some_ids.Goals as goal
 
 pub loop-i-preserved : goal.loop-i-preserved

@@ -1,6 +1,6 @@
-use Rattle.std.proofs.Common.{◌≡◌, ◌≤◌, ◌-◌, [], length, drop}
+use Rattle.std.proofs.Common.{◌-◌}
 use Rattle.compact_values.specs.IdReading.{exguid_at}
-use Rattle.compact_values.specs.Placed.{items_at, single}
+use Rattle.compact_values.specs.Placed.{single}
 use Rattle.compact_values.proofs.ArrayLoops.{Underway}
 use Rattle.compact_values.proofs.arrays.some_ids.Given as goal
 

@@ -1,11 +1,9 @@
-use Rattle.std.proofs.Common.{◌≡◌, ◌≢◌, ◌<◌, ℕ, List, length, drop, sym, arith}
-use Rattle.std.proofs.lemmas.Bool.{cases_lt, lt-ltb, le-ltb}
+use Rattle.std.proofs.Common.{arith}
 use Rattle.std.proofs.lemmas.Result.{err_from_is_err_and}
-use Rattle.compact_values.specs.Reading.{Reading, Malformed}
 use Rattle.compact_values.specs.IdReading.{guid_at, exguid_value_at}
 use Rattle.compact_values.proofs.IdRows.{SpellsValue, value_code}
 use Rattle.compact_values.proofs.IdCode.{guid_at-forms}
-use Rattle.compact_values.proofs.ReadingSteps.{was_found, first_fault, second_fault, second_found}
+use Rattle.compact_values.proofs.ReadingSteps.{was_found, first_fault, second_fault}
 use Rattle.compact_values.proofs.exguid.id_at.Goals as goal
 
 pub returns-in_err-value-clause-exact : goal.returns-in_err-value-clause-exact

@@ -1,8 +1,8 @@
-use Rattle.std.proofs.Common.{◌∙◌, sym, drop, length, arith}
+use Rattle.std.proofs.Common.{arith}
 use Rattle.compact_values.specs.Ids.{SpellsGuid}
 use Rattle.compact_values.specs.IdReading.{guid_at}
 use Rattle.compact_values.proofs.exguid.read_guid.Goals as goal
-use Rattle.compact_values.proofs.Codes.{IsFoundAt-of, IsShortAt-of, IsOutOfFormAt-of, takes_no_memory}
+use Rattle.compact_values.proofs.Codes.{IsFoundAt-of, IsShortAt-of}
 use Rattle.compact_values.proofs.IdCode.{guid_code}
 
 pub returns-clause-found : goal.returns-clause-found

@@ -5,7 +5,7 @@ use Rattle.std.specs.Option.{option_map}
 use Rattle.std.proofs.lemmas.Str.{chars-IsAscii}
 use Rattle.uuid.specs.Text.{lower, hyphenated_text, parsed}
 use Rattle.uuid.proofs.TextLemmas.{hyphenated_ascii}
-use Rattle.compact_values.specs.GuidText.{guid_of_text_bytes, guid_in_text, text_of_guid}
+use Rattle.compact_values.specs.GuidText.{guid_of_text_bytes, guid_in_text}
 use Rattle.compact_values.specs.declared.guid.Guid.{Guid}
 use Rattle.compact_values.proofs.GuidLemmas.{guid_again}
 use Rattle.compact_values.proofs.guid.number_text.Goals as goal

@@ -1,5 +1,5 @@
 use Rattle.std.proofs.lemmas.Result.{err_from_is_err_and}
-use Rattle.std.proofs.Common.{◌≡◌, ◌∷◌, ◌∙◌, List, ℕ, drop, ap}
+use Rattle.std.proofs.Common.{◌≡◌, ◌∷◌, ◌∙◌, ℕ, drop, ap}
 use Rattle.compact_values.proofs.IdCode.{serial_fault}
 use Rattle.compact_values.proofs.ReadingSteps.{starts}
 use Rattle.compact_values.proofs.serial.serial_at.Goals as goal
