@@ -9,7 +9,7 @@ use Rattle.compact_values.specs.Compact.{SpellsCompact}
 use Rattle.compact_values.proofs.LittleEndian.{IsBytes}
 use Rattle.stream_objects.specs.declared.tree.Tree.{Tree}
 use Rattle.stream_objects.specs.declared.tree.Tree.TheViews.{out-Tree}
-use Rattle.compact_values.specs.Fields.{◌▹◌, Begins, IsByte}
+use Rattle.compact_values.specs.Sequences.{◌▹◌, Begins, SpellsByte}
 use Rattle.stream_objects.specs.Objects.{HasFields, One, Each, kind_of, is_kind, start_of, children_of}
 use Rattle.stream_objects.specs.Parts.{IsFirstBroken}
 use Rattle.compact_values.specs.Taking.{take_compact, take_byte, take_both, if_all, if_some}
@@ -25,7 +25,7 @@ use Rattle.cell_host.specs.RequestReading.{allocate_fields, sub_fields, package_
 -- ---- rows of fields
 
 abbrev AllocateRow : ℕ × ℕ → List ℕ → Type 0
-AllocateRow = SpellsCompact ▹ IsByte
+AllocateRow = SpellsCompact ▹ SpellsByte
 
 abbrev SubRow : ℕ × (ℕ × ℕ) → List ℕ → Type 0
 SubRow = SpellsCompact ▹ SpellsCompact ▹ SpellsCompact
@@ -37,7 +37,7 @@ abbrev take_sub : List ℕ → Option ((ℕ × (ℕ × ℕ)) × List ℕ)
 take_sub = take_both take_compact (take_both take_compact take_compact)
 
 gets_allocate : Gets (Begins AllocateRow) (λ b. if_some (take_allocate b))
-gets_allocate = gets_some AllocateRow take_allocate (takes_both SpellsCompact IsByte take_compact take_byte takes_compact takes_byte)
+gets_allocate = gets_some AllocateRow take_allocate (takes_both SpellsCompact SpellsByte take_compact take_byte takes_compact takes_byte)
 
 gets_sub : Gets (Begins SubRow) (λ b. if_some (take_sub b))
 gets_sub =
@@ -45,8 +45,8 @@ gets_sub =
     (takes_both SpellsCompact (SpellsCompact ▹ SpellsCompact) take_compact (take_both take_compact take_compact) takes_compact
     (takes_both SpellsCompact SpellsCompact take_compact take_compact takes_compact takes_compact))
 
-gets_package : Gets IsByte (λ b. if_all (take_byte b))
-gets_package = gets_all IsByte take_byte takes_byte
+gets_package : Gets SpellsByte (λ b. if_all (take_byte b))
+gets_package = gets_all SpellsByte take_byte takes_byte
 
 -- ---- objects
 
@@ -66,11 +66,11 @@ module _ (input : List ℕ) (fits : IsBytes input) where
   sub_again : (t : Tree) (x : ℕ × (ℕ × ℕ)) → HasFields true (Begins SubRow) input t x → sub_fields input t ≡ Some x
   sub_again t x h = compound_again (Begins SubRow) (λ b. if_some (take_sub b)) gets_sub input t (IsBytes-fields input t fits) x h
 
-  package_found : (t : Tree) (x : ℕ) → package_fields input t ≡ Some x → HasFields true IsByte input t x
-  package_found t x e = compound_gets IsByte (λ b. if_all (take_byte b)) gets_package input t (IsBytes-fields input t fits) x e
+  package_found : (t : Tree) (x : ℕ) → package_fields input t ≡ Some x → HasFields true SpellsByte input t x
+  package_found t x e = compound_gets SpellsByte (λ b. if_all (take_byte b)) gets_package input t (IsBytes-fields input t fits) x e
 
-  package_again : (t : Tree) (x : ℕ) → HasFields true IsByte input t x → package_fields input t ≡ Some x
-  package_again t x h = compound_again IsByte (λ b. if_all (take_byte b)) gets_package input t (IsBytes-fields input t fits) x h
+  package_again : (t : Tree) (x : ℕ) → HasFields true SpellsByte input t x → package_fields input t ≡ Some x
+  package_again t x h = compound_again SpellsByte (λ b. if_all (take_byte b)) gets_package input t (IsBytes-fields input t fits) x h
 
   -- an allocate request
   judges_allocate : (t : Tree) → Judges Own part_start (AllocateFields input t) (allocate t ∷ []) (allocate_at input t)

@@ -1,15 +1,26 @@
 -- Taking a value from the front of bytes follows its spelling.
-use Rattle.std.proofs.Common.{◌≡◌, ℕ, suc, List, [], ◌∷◌, ◌++◌, length, take, drop, Option, Some, None, inl, inr, refl, sym, ap, subst, ◌∙◌, append_assoc}
+use Rattle.std.proofs.Common.{◌≡◌, ℕ, List, [], ◌∷◌, ◌++◌, length, take, drop, Option, Some, None, inl, inr, refl, sym, ap, subst, ◌∙◌, append_assoc}
 use Rattle.std.proofs.lemmas.List.{append-nil, take-append-drop, drop_at}
 use Rattle.compact_values.specs.Both.{SpellsBoth}
 use Rattle.compact_values.specs.Compact.{SpellsCompact}
+use Rattle.compact_values.specs.Ids.{SpellsGuid, SpellsExGuid, SpellsSerial, SpellsCellId, SpellsLong}
+use Rattle.compact_values.specs.IdReading.{guid_at, long_at, exguid_at, serial_at}
+use Rattle.compact_values.specs.ItemReading.{item_at}
+use Rattle.compact_values.specs.Items.{SpellsItem, SpellsIds, SpellsCells}
+use Rattle.compact_values.specs.Placed.{joined, cell_id_at, ids_at, cells_at}
 use Rattle.compact_values.specs.Reading.{Reading, Value, Cut, Malformed, compact_at}
+use Rattle.compact_values.specs.Sequences.{Begins, SpellsByte}
+use Rattle.compact_values.specs.Taking.{taken, take_byte, take_compact, take_long, take_guid, take_exguid, take_serial, take_cell_id, take_item, take_ids, take_cells, with_first, then_take, take_both, if_all, if_some}
 use Rattle.compact_values.proofs.LittleEndian.{IsBytes}
 use Rattle.compact_values.proofs.Codes.{Recognises, cases_reading}
 use Rattle.compact_values.proofs.CompactCode.{compact_code}
-use Rattle.compact_values.specs.Fields.{Begins, IsByte}
-use Rattle.compact_values.specs.Taking.{taken, take_compact, take_byte, with_first, then_take, take_both, if_all, if_some}
+use Rattle.compact_values.proofs.IdCode.{guid_code, long_code, exguid_code, serial_code}
+use Rattle.compact_values.proofs.CellIdCode.{cell_id_parts}
+use Rattle.compact_values.proofs.ItemCode.{item_code}
+use Rattle.compact_values.proofs.IdArrays.{ids_parts, cells_parts}
+use Rattle.compact_values.proofs.Parts.{IsBytes-behind}
 
+-- What is taken is a spelling at the front with what is behind it, and each spelling at the front is taken.
 pub record Takes {V : Type 0} (Spells : V → List ℕ → Type 0) (get : List ℕ → Option (V × List ℕ)) : Type 0 where
   pub found : (b : List ℕ) (v : V) (rest : List ℕ) → IsBytes b → get b ≡ Some (v, rest) → (front : List ℕ) × Spells v front × (b ≡ front ++ rest)
   pub again : (v : V) (front rest : List ℕ) → Spells v front → get (front ++ rest) ≡ Some (v, rest)
@@ -18,10 +29,6 @@ pub some_pair : {A B : Type 0} (p q : A × B) → Some p ≡ Some q → (p.0 ≡
 some_pair {A} {B} p q e =
     let pair : p ≡ q = cc in
     (ap (λ (r : A × B). r.0) pair, ap (λ (r : A × B). r.1) pair)
-
-pub IsBytes-behind : (front rest : List ℕ) → IsBytes (front ++ rest) → IsBytes rest
-IsBytes-behind [] rest fits i = fits i
-IsBytes-behind (b ∷ front) rest fits i = IsBytes-behind front rest (λ j. fits (suc j)) i
 
 -- a reader that recognises spellings takes them
 pub takes_code : {V : Type 0} (Spells : V → List ℕ → Type 0) (read : List ℕ → Reading V) → Recognises Spells read → Takes Spells (λ b. taken (read b) b)
@@ -44,18 +51,52 @@ takes_code {V} Spells read code = record {
       ap (λ (q : Reading V). taken q (front ++ rest)) (code.again v front rest s) ∙ ap (λ (l : List ℕ). Some (v, l)) (drop_at front rest (length front) refl);
 }
 
+-- ---- each kind of value
+
 pub takes_compact : Takes SpellsCompact take_compact
 unfolding take_compact
 takes_compact = takes_code SpellsCompact compact_at compact_code
 
-pub takes_byte : Takes IsByte take_byte
+pub takes_long : Takes SpellsLong take_long
+unfolding take_long
+takes_long = takes_code SpellsLong long_at long_code
+
+pub takes_guid : Takes SpellsGuid take_guid
+unfolding take_guid
+takes_guid = takes_code SpellsGuid guid_at guid_code
+
+pub takes_exguid : Takes SpellsExGuid take_exguid
+unfolding take_exguid
+takes_exguid = takes_code SpellsExGuid exguid_at exguid_code
+
+pub takes_serial : Takes SpellsSerial take_serial
+unfolding take_serial
+takes_serial = takes_code SpellsSerial serial_at serial_code
+
+pub takes_cell_id : Takes SpellsCellId take_cell_id
+unfolding take_cell_id
+takes_cell_id = takes_code SpellsCellId (λ b. joined (cell_id_at b)) cell_id_parts.code
+
+pub takes_item : Takes SpellsItem take_item
+unfolding take_item
+takes_item = takes_code SpellsItem item_at item_code
+
+pub takes_ids : Takes SpellsIds take_ids
+unfolding take_ids
+takes_ids = takes_code SpellsIds (λ b. joined (ids_at b)) ids_parts.code
+
+pub takes_cells : Takes SpellsCells take_cells
+unfolding take_cells
+takes_cells = takes_code SpellsCells (λ b. joined (cells_at b)) cells_parts.code
+
+pub takes_byte : Takes SpellsByte take_byte
 unfolding take_byte
 takes_byte = record { found = found_byte; again = again_byte } where
-  found_byte : (b : List ℕ) (v : ℕ) (rest : List ℕ) → IsBytes b → take_byte b ≡ Some (v, rest) → (front : List ℕ) × IsByte v front × (b ≡ front ++ rest)
+  found_byte : (b : List ℕ) (v : ℕ) (rest : List ℕ) → IsBytes b → take_byte b ≡ Some (v, rest) → (front : List ℕ) × SpellsByte v front × (b ≡ front ++ rest)
   found_byte [] v rest fits e = absurd cc
   found_byte (x ∷ bytes) v rest fits e = let pair = some_pair (x, bytes) (v, rest) e in (v ∷ [], refl, ap (λ (y : ℕ). y ∷ bytes) pair.0 ∙ ap (λ (l : List ℕ). v ∷ l) pair.1)
 
-  again_byte : (v : ℕ) (front rest : List ℕ) → IsByte v front → take_byte (front ++ rest) ≡ Some (v, rest)
+  again_byte : (v : ℕ) (front rest : List ℕ) → SpellsByte v front → take_byte (front ++ rest) ≡ Some (v, rest)
   again_byte v front rest s = rw s refl
 
 -- ---- two values

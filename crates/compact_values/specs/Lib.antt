@@ -5,5 +5,11 @@ pub mod GuidBytes
 pub mod Reading
 pub mod Both
 pub mod GuidText
-pub mod Fields
+pub mod Kinds
+pub mod Ids
+pub mod Items
+pub mod IdReading
+pub mod Placed
+pub mod ItemReading
+pub mod Sequences
 pub mod Taking

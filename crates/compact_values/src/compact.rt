@@ -1,11 +1,12 @@
-ghost use Rattle.std.specs.Prelude.{◌≡◌, ◌≢◌, ℕ, ◌+◌, ◌*◌, ◌/◌, ◌^◌, ◌<◌, ◌≤◌, ◌++◌, length, drop, OnOk, OnErr, Err};
+ghost use Rattle.std.specs.Prelude.{◌≡◌, ◌≢◌, ℕ, ◌+◌, ◌*◌, ◌/◌, ◌^◌, ◌<◌, ◌≤◌, ◌++◌, length, drop, IfOk, OnOk, OnErr, Err};
 ghost use Rattle.compact_values.specs.Compact.{compact, little_endian, SpellsCompact};
 ghost use Rattle.compact_values.specs.Answers.{IsFoundAt, IsShortAt, IsOutOfFormAt};
-ghost use Rattle.compact_values.specs.Reading.{number_of, form_of, IsUsable, compact_at, answer_at};
+ghost use Rattle.compact_values.specs.Reading.{form_of, IsUsable, compact_at, answer_at};
 ghost use Rattle.compact_values.specs.declared.fault.ValueFault.TheVariants as faults;
 
 use crate::fault::{NoMemory, ValueFault};
-use crate::numbers::{append_low_bytes, number_of};
+use crate::form::{Form, read_field};
+use crate::numbers::append_low_bytes;
 use crate::seq::Octets;
 
 /// Adds the spelling of the number at the end. Without memory nothing is added.
@@ -27,14 +28,6 @@ pub fn write_compact(out: &mut Octets, value: u64) -> Result<(), NoMemory>
             out.extend_from_slice(&[0x80, a, b, c, d, e, f, g, h])
         }
     }
-}
-
-/// A form of a compact integer: how many bytes it takes, how many low bits say which form it is, and its least number.
-#[derive(Clone, Copy)]
-struct Form {
-    width: usize,
-    shift: u32,
-    least: u64,
 }
 
 /// The form that the low bits of the first byte name.
@@ -100,44 +93,24 @@ fn form_of(first: u8) -> Form
     }
 }
 
-/// The number that bytes of this form hold.
-fn number_in(form: Form, bytes: &[u8]) -> u64
-    requires usable { IsUsable form }
-    requires whole { length bytes.now ≡ form.width }
-    ensures { result ≡ number_of bytes.now / 2 ^ form.shift }
-{
-    if form.width == 9 {
-        number_of(&bytes[1..])
-    } else {
-        number_of(bytes) >> form.shift
-    }
-}
-
 #[tactic(auto, unfolding(crate::specs::Reading::compact_at))]
 fn compact_at(bytes: &[u8], at: usize) -> Result<(u64, usize), ValueFault>
     requires { at ≤ length bytes.now }
-    ensures { result ≡ answer_at (length bytes.now) at (compact_at (drop at bytes.now)) }
+    ensures exact { result ≡ answer_at (length bytes.now) at (compact_at (drop at bytes.now)) }
+    ensures inside { IfOk result (λ x. x.1 ≤ length bytes.now) }
 {
-    let rest = &bytes[at..];
-    let Some(first) = rest.first() else {
-        return Err(ValueFault::Short { place: bytes.len() });
-    };
-    let form = form_of(*first);
-    if rest.len() < form.width {
-        return Err(ValueFault::Short { place: bytes.len() });
+    match bytes[at..].first() {
+        Some(first) => read_field(bytes, at, form_of(*first)),
+        None => Err(ValueFault::Short { place: bytes.len() }),
     }
-    let number = number_in(form, &rest[..form.width]);
-    if number < form.least {
-        return Err(ValueFault::OutOfForm { place: at });
-    }
-    Ok((number, at + form.width))
 }
 
 /// Reads the compact integer at a place, and gives the place after it.
 pub fn read_compact(bytes: &[u8], at: usize) -> Result<(u64, usize), ValueFault>
     requires { at ≤ length bytes.now }
-    // Ok comes exactly for a spelling.
+    // Ok comes exactly for a spelling, which is then within the input.
     ensures found { IsFoundAt SpellsCompact bytes.now at result }
+    ensures inside { IfOk result (λ x. x.1 ≤ length bytes.now) }
     // Short comes exactly where the input ends inside one.
     ensures short { IsShortAt SpellsCompact bytes.now at result }
     // OutOfForm comes exactly where neither is so.

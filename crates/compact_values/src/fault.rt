@@ -1,3 +1,5 @@
+ghost use Rattle.std.specs.Prelude.{◌≡◌};
+
 use std::alloc::{AllocError, AllocFailed};
 use std::fmt;
 
@@ -32,4 +34,14 @@ pub enum ValueFault {
     OutOfForm { place: usize },
     /// No memory was left.
     NoMemory,
+}
+
+impl From<NoMemory> for ValueFault {
+    ghost use Rattle.compact_values.specs.declared.fault.ValueFault.TheVariants as faults;
+
+    ghost from_gives = { λ _ fault. fault ≡ faults.NoMemory };
+
+    fn from(_: NoMemory) -> Self {
+        ValueFault::NoMemory
+    }
 }

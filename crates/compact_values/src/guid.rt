@@ -1,8 +1,11 @@
 // GUIDs: their number, their 16 bytes in the binary format (MS-FSSHTTPB 2.2.1, MS-DTYP 2.3.4.2) and their texts.
-ghost use Rattle.std.specs.Prelude.{◌≡◌, length};
+ghost use Rattle.std.specs.Prelude.{◌≡◌, length, IfOk, Some};
 ghost use Rattle.compact_values.specs.GuidBytes.{guid_bytes, guid_number};
-ghost use Rattle.compact_values.specs.GuidText.{guid_in_text};
+ghost use Rattle.compact_values.specs.GuidText.{guid_in_text, text_of_guid};
 
+use crate::fault::NoMemory;
+use crate::text::Text;
+use std::alloc::Global;
 use uuid::Uuid;
 
 /// A GUID, as the number that its sixteen bytes make when they are written as in its text, the first byte highest.
@@ -45,4 +48,23 @@ pub fn guid_of_text(text: &str) -> Option<Guid>
         }),
         Err(_) => None,
     }
+}
+
+/// The text of the GUID with this number.
+fn number_text(alloc: Global, number: u128) -> Result<Text, NoMemory>
+    ensures text { IfOk result (λ text. text ≡ text_of_guid (record { number = number })) }
+    ensures back { IfOk result (λ text. guid_in_text text ≡ Some (record { number = number })) }
+{
+    let mut buffer = Uuid::encode_buffer();
+    let uuid = Uuid::from_u128(number);
+    let text = uuid.hyphenated().encode_lower(&mut buffer);
+    Text::from_str(alloc, text)
+}
+
+/// The text of a GUID: 36 characters, with hyphens and lower-case digits, which `guid_of_text` reads back.
+pub fn guid_text(alloc: Global, guid: Guid) -> Result<Text, NoMemory>
+    ensures text { IfOk result (λ text. text ≡ text_of_guid guid) }
+    ensures back { IfOk result (λ text. guid_in_text text ≡ Some guid) }
+{
+    number_text(alloc, guid.number)
 }

@@ -3,7 +3,7 @@
 -- type isn't named has no place there, and is skipped with all that it holds.
 use Rattle.std.specs.Prelude.{◌≡◌, ℕ, ◌≤◌, true, false, List, [], length}
 use Rattle.compact_values.specs.Compact.{SpellsCompact}
-use Rattle.compact_values.specs.Fields.{◌▹◌, Begins, IsByte}
+use Rattle.compact_values.specs.Sequences.{◌▹◌, Begins, SpellsByte}
 use Rattle.stream_objects.specs.declared.tree.Tree.{Tree}
 use Rattle.stream_objects.specs.declared.tree.Tree.TheViews.{out-Tree}
 use Rattle.stream_objects.specs.Objects.{HasFields, One, Any, kind_of, children_of}
@@ -13,7 +13,7 @@ use Rattle.doc_model.specs.declared.request.DrawRequest.{DrawRequest}
 
 -- 80, allocate request: compact count, one byte; the rest is ignored
 abbrev pub AllocateFields : List ℕ → Tree → ℕ → Type 0
-AllocateFields input tree count = (flag : ℕ) × HasFields false (Begins (SpellsCompact ▹ IsByte)) input tree (count, flag)
+AllocateFields input tree count = (flag : ℕ) × HasFields false (Begins (SpellsCompact ▹ SpellsByte)) input tree (count, flag)
 
 -- 42, compound, sub-request: compact id, compact kind, compact priority; the rest is ignored
 abbrev pub SubRequestFields : List ℕ → Tree → ℕ → ℕ → Type 0
@@ -21,7 +21,7 @@ SubRequestFields input tree id kind = (priority : ℕ) × HasFields true (Begins
 
 -- 15, compound, data element package: one byte
 abbrev pub PackageFields : List ℕ → Tree → Type 0
-PackageFields input tree = (byte : ℕ) × HasFields true IsByte input tree byte
+PackageFields input tree = (byte : ℕ) × HasFields true SpellsByte input tree byte
 
 -- a sub-request of kind 11, allocate extended GUID range, which holds exactly one 80
 abbrev pub IsDraw : List ℕ → Tree → DrawRequest → Type 0

@@ -1,4 +1,4 @@
--- What fields spell: values one behind the other.
+-- Values one behind the other, as the fields of an object are.
 use Rattle.std.specs.Prelude.{◌≡◌, ℕ, List, [], ◌∷◌, ◌++◌}
 use Rattle.compact_values.specs.Both.{SpellsBoth}
 
@@ -15,5 +15,5 @@ pub record Begins {V : Type 0} (Spells : V → List ℕ → Type 0) (v : V) (byt
   pub bytes_are : bytes ≡ front ++ rest
 
 -- one byte
-abbrev pub IsByte : ℕ → List ℕ → Type 0
-IsByte b bytes = bytes ≡ b ∷ []
+abbrev pub SpellsByte : ℕ → List ℕ → Type 0
+SpellsByte b bytes = bytes ≡ b ∷ []

@@ -1,0 +1,18 @@
+use Rattle.std.proofs.Common.{arith}
+use Rattle.compact_values.specs.Items.{SpellsCells}
+use Rattle.compact_values.specs.Placed.{LacksInCells, cells_at}
+use Rattle.compact_values.proofs.IdArrays.{cells_parts}
+use Rattle.compact_values.proofs.Parts.{found_parts, short_parts, out_of_form_parts, refused_parts}
+use Rattle.compact_values.proofs.arrays.read_cells.Goals as goal
+
+pub returns-clause-found : goal.returns-clause-found
+returns-clause-found c some = found_parts SpellsCells LacksInCells cells_at cells_parts c.args.bytes.now c.args.at c.requires (λ i. omega (arith, c.type_inv.bytes i)) c.cells_at.result (c.cells_at.ensures.exact some)
+
+pub returns-clause-short : goal.returns-clause-short
+returns-clause-short c some = short_parts SpellsCells LacksInCells cells_at cells_parts c.args.bytes.now c.args.at c.requires (λ i. omega (arith, c.type_inv.bytes i)) c.cells_at.result (c.cells_at.ensures.exact some)
+
+pub returns-clause-refused : goal.returns-clause-refused
+returns-clause-refused c some = refused_parts SpellsCells LacksInCells cells_at cells_parts c.args.bytes.now c.args.at c.requires (λ i. omega (arith, c.type_inv.bytes i)) c.cells_at.result (c.cells_at.ensures.exact some)
+
+pub returns-clause-out_of_form : goal.returns-clause-out_of_form
+returns-clause-out_of_form c some = out_of_form_parts SpellsCells LacksInCells cells_at cells_parts c.args.bytes.now c.args.at c.requires (λ i. omega (arith, c.type_inv.bytes i)) c.cells_at.result (c.cells_at.ensures.exact some)
