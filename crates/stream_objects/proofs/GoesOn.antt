@@ -1,6 +1,6 @@
 -- An input that is the beginning of a tree goes on to one: the header that it ends inside, and the fields, are
 -- completed, and then each open object is closed.
-use Rattle.std.proofs.Common.{◌≡◌, ℕ, zero, suc, ◌+◌, ◌-◌, ◌*◌, ◌^◌, ◌/◌, ◌%◌, ◌<◌, ◌≤◌, ◌⊎◌, Bool, true, false, List, [], ◌∷◌, ◌++◌, length, map, sum, take, drop, get_or, inl, inr, refl, sym, ap, subst, ◌∙◌, append_assoc, arith}
+use Rattle.std.proofs.Common.{◌≡◌, ℕ, zero, suc, ◌+◌, ◌-◌, ◌*◌, ◌^◌, ◌/◌, ◌%◌, ◌<◌, ◌≤◌, ◌⊎◌, Bool, true, false, List, [], ◌∷◌, ◌++◌, length, map, sum, drop, get_or, inl, inr, refl, sym, ap, subst, ◌∙◌, append_assoc, arith}
 use Rattle.std.specs.Prelude.{replicate}
 use Rattle.std.proofs.lemmas.List.{append-nil, length-append, length-drop, length-replicate}
 use Rattle.compact_values.specs.Spelled.{IsSpelledAt, EndsInside}
@@ -17,7 +17,7 @@ use Rattle.stream_objects.specs.declared.tree.Tree.TheViews.{roll-Tree}
 use Rattle.stream_objects.specs.declared.reading.Open.{Open}
 use Rattle.stream_objects.proofs.Begun.{Consecutive-push, innermost, node, simple_object, closed_object, objects_of, objects-push, begun_objects-push, starts, no_children}
 use Rattle.stream_objects.proofs.HeaderStarts.{spelled_rest, spelled_last}
-use Rattle.stream_objects.proofs.Longer.{drop-longer, header-longer, starts-longer, Consecutive-longer, object-longer, open-longer, begun-longer}
+use Rattle.stream_objects.proofs.Longer.{drop-longer, header-longer, starts-longer, object-longer, open-longer, begun-longer}
 use Rattle.stream_objects.proofs.Moved.{object-moved}
 
 -- ---- ends

@@ -1,5 +1,5 @@
 -- What the bytes at a place say of the header that begins there.
-use Rattle.std.proofs.Common.{◌≡◌, ℕ, zero, suc, ◌+◌, ◌-◌, ◌*◌, ◌^◌, ◌/◌, ◌%◌, ◌<◌, ◌≤◌, ◌⊎◌, Bool, true, false, List, [], ◌∷◌, ◌++◌, length, take, drop, inl, inr, refl, sym, ap, subst, ◌∙◌, append_assoc, arith}
+use Rattle.std.proofs.Common.{◌≡◌, ℕ, ◌+◌, ◌-◌, ◌*◌, ◌^◌, ◌/◌, ◌%◌, ◌<◌, ◌≤◌, Bool, true, false, List, [], ◌∷◌, ◌++◌, length, take, drop, inl, inr, refl, sym, ap, subst, ◌∙◌, append_assoc, arith}
 use Rattle.std.specs.List.{slice_range}
 use Rattle.std.proofs.Math.Seq.{take-length}
 use Rattle.std.proofs.lemmas.Bool.{cases_eq}
@@ -10,7 +10,7 @@ use Rattle.stream_objects.proofs.HeaderLaws.{header_code}
 use Rattle.std.proofs.lemmas.List.{append-nil, take_at, drop_at, length-append, length-drop}
 use Rattle.std.proofs.lemmas.List.Folds.{drop_split}
 use Rattle.compact_values.specs.Spelled.{IsSpelledAt, EndsInside}
-use Rattle.stream_objects.specs.Headers.{StartForm, small, wide, large, EndForm, small_end, wide_end, StartFits, start_bytes, end_bytes, StartBegins, EndBegins}
+use Rattle.stream_objects.specs.Headers.{StartForm, small, wide, large, EndForm, small_end, wide_end, start_bytes, end_bytes, StartBegins, EndBegins}
 use Rattle.stream_objects.specs.HeaderValues.{SpellsHeader}
 use Rattle.stream_objects.specs.Faults.{Agree, BeginsHeader, Refuses}
 use Rattle.stream_objects.specs.declared.headers.Header.{Header}
