@@ -117,6 +117,10 @@ stays b more fits e =
 pub item_code : Recognises SpellsItem item_at
 item_code = record { again = again; takes = takes; cut = cut; stays = stays }
 
+same_span : (span : Span) (next from to : ℕ) → from ≡ span.from → to ≡ span.to → span.to ≡ next → ◌≡◌ {A = Result (Span × ℕ) ValueFault} (Ok (record { from = from; to = to }, to)) (Ok (span, next))
+same_span span next from to e f g =
+    ap (λ (n : ℕ). Ok (record { from = n; to = to }, to)) e ∙ ap (λ (n : ℕ). Ok (record { from = span.from; to = n }, n)) f ∙ ap (λ (n : ℕ). Ok (span, n)) g
+
 -- ---- the answers
 
 module _ (bytes : List ℕ) (at : ℕ) (le : at ≤ length bytes) (fits : IsBytes bytes) (answer : Result (Span × ℕ) ValueFault) (e : answer ≡ span_answer (length bytes) at (item_at (drop at bytes))) where
@@ -222,8 +226,11 @@ module _ (bytes : List ℕ) (at : ℕ) (le : at ≤ length bytes) (fits : IsByte
         let size : length content ≡ span.to - span.from = omega (arith, length-take (span.to - span.from) (drop span.from bytes), length-drop span.from bytes, h.order, h.ends, h.spelled.inside) in
         let from : at + r.0 - length content ≡ span.from = omega (arith, size, r.2, h.ends, h.order) in
         let to : at + r.0 ≡ span.to = omega (arith, r.2, h.ends) in
-        e ∙ ap (λ (q : Reading (List ℕ)). span_answer len at q) r.1
-        ∙ ap (λ (n : ℕ). Ok (record { from = n; to = at + r.0 }, at + r.0)) from
-        ∙ ap (λ (n : ℕ). Ok (record { from = span.from; to = n }, n)) to
-        ∙ ap (λ (n : ℕ). Ok (span, n)) h.ends,
+        e ∙ ap (λ (q : Reading (List ℕ)). span_answer len at q) r.1 ∙ same_span span next (at + r.0 - length content) (at + r.0) from to h.ends,
   )
+
+  -- the content that was read, and how many bytes the item takes
+  pub item_value : (span : Span) (next : ℕ) → answer ≡ Ok (span, next) → (used : ℕ) × (read ≡ Value (slice_range bytes span.from span.to) used) × (next ≡ at + used)
+  item_value span next ok =
+      let content = slice_range bytes span.from span.to in
+      value_in read content next ((IsFoundAt-of SpellsItem item_at item_code bytes at le fits (answer_at len at read) refl content next).1 ((found_item span next).0 ok).spelled)

@@ -45,7 +45,8 @@ pub use seq::{Copied, Octets, Same, Seq};
 pub use serial::{read_serial, write_serial};
 pub use span::Span;
 pub use take::{
-    take_byte, take_cell_id, take_compact, take_exguid, take_guid, take_long, take_serial,
+    take_byte, take_cell_id, take_cells, take_compact, take_exguid, take_guid, take_ids, take_item,
+    take_long, take_serial,
 };
 pub use text::{Names, Text};
 

@@ -1,13 +1,18 @@
 // Taking values from the front of bytes, each with the bytes behind it, as the fields of an object are read.
-ghost use Rattle.std.specs.Prelude.{◌≡◌, option_map};
-ghost use Rattle.compact_values.specs.Taking.{take_byte, take_compact, take_long, take_guid, take_exguid, take_serial, take_cell_id};
+ghost use Rattle.std.specs.Prelude.{◌≡◌, ◌↔◌, IfOk, IsTrue, option_map};
+ghost use Rattle.compact_values.specs.Taking.{take_byte, take_compact, take_long, take_guid, take_exguid, take_serial, take_cell_id, take_item, take_ids, take_cells};
+ghost use Rattle.compact_values.specs.declared.fault.ValueFault.TheVariants as faults;
 
+use crate::arrays::{read_cells, read_ids};
 use crate::cell_id::read_cell_id;
 use crate::compact::read_compact;
 use crate::exguid::{read_exguid, read_guid};
+use crate::fault::{NoMemory, ValueFault};
 use crate::guid::Guid;
-use crate::ids::{CellId, ExGuid, Serial};
+use crate::ids::{CellId, CellIds, ExGuid, Ids, Serial};
+use crate::item::read_item;
 use crate::serial::{long_at, read_serial};
+use std::alloc::Global;
 
 /// A byte from the front, and the bytes behind it.
 #[tactic(auto, unfolding(crate::specs::Taking::take_byte))]
@@ -83,5 +88,60 @@ pub fn take_cell_id(bytes: &[u8]) -> Option<(CellId, &[u8])>
     match read_cell_id(bytes, 0) {
         Ok((value, next)) => Some((value, &bytes[next..])),
         Err(_) => None,
+    }
+}
+
+/// The bytes of a binary item from the front, and the bytes behind it.
+#[tactic(auto, unfolding(crate::specs::Taking::take_item))]
+pub fn take_item(bytes: &[u8]) -> Option<(&[u8], &[u8])>
+    ensures { option_map (λ x. (x.0.now, x.1.now)) result ≡ take_item bytes.now }
+{
+    match read_item(bytes, 0) {
+        Ok((span, next)) => Some((&bytes[span.from..span.to], &bytes[next..])),
+        Err(_) => None,
+    }
+}
+
+/// Whether memory ran out.
+fn is_no_memory(fault: ValueFault) -> bool
+    ensures { IsTrue result ↔ (fault ≡ faults.NoMemory) }
+{
+    match fault {
+        ValueFault::NoMemory => true,
+        ValueFault::Short { .. } | ValueFault::OutOfForm { .. } => false,
+    }
+}
+
+/// An array of extended GUIDs from the front, and the bytes behind it.
+#[tactic(auto, unfolding(crate::specs::Taking::take_ids))]
+pub fn take_ids(alloc: Global, bytes: &[u8]) -> Result<Option<(Ids, &[u8])>, NoMemory>
+    ensures { IfOk result (λ o. option_map (λ x. (x.0, x.1.now)) o ≡ take_ids bytes.now) }
+{
+    match read_ids(alloc, bytes, 0) {
+        Ok((ids, next)) => Ok(Some((ids, &bytes[next..]))),
+        Err(fault) => {
+            if is_no_memory(fault) {
+                Err(NoMemory)
+            } else {
+                Ok(None)
+            }
+        }
+    }
+}
+
+/// An array of cell ids from the front, and the bytes behind it.
+#[tactic(auto, unfolding(crate::specs::Taking::take_cells))]
+pub fn take_cells(alloc: Global, bytes: &[u8]) -> Result<Option<(CellIds, &[u8])>, NoMemory>
+    ensures { IfOk result (λ o. option_map (λ x. (x.0, x.1.now)) o ≡ take_cells bytes.now) }
+{
+    match read_cells(alloc, bytes, 0) {
+        Ok((cells, next)) => Ok(Some((cells, &bytes[next..]))),
+        Err(fault) => {
+            if is_no_memory(fault) {
+                Err(NoMemory)
+            } else {
+                Ok(None)
+            }
+        }
     }
 }
