@@ -1,7 +1,7 @@
 // The text of an answer.
-ghost use Rattle.std.specs.Prelude.{◌≡◌, ◌++◌, ◌∷◌, [], List, ℕ, OnOk, OnErr, take, length, decimal};
+ghost use Rattle.std.specs.Prelude.{◌≡◌, ◌++◌, ◌∷◌, [], List, ℕ, OnOk, OnErr, IsTrue, take, length, decimal};
 ghost use Rattle.std.specs.List.{concat};
-ghost use Rattle.http_head.specs.Answers.{reason, type_line, close_line, front_text, length_line, rest_text, answer_text};
+ghost use Rattle.http_head.specs.Answers.{reason, has_reason, type_line, close_line, front_text, length_line, rest_text, answer_text};
 
 use compact_values::{NoMemory, Octets};
 use itoa::Buffer;
@@ -9,9 +9,13 @@ use itoa::Buffer;
 /// What the body of an answer is.
 #[derive(Clone, Copy, Debug, PartialEq, Eq)]
 pub enum Media {
+    /// `text/xml; charset=utf-8`: an envelope.
     Xml,
+    /// `text/plain`: a number.
     Plain,
+    /// `application/octet-stream`: a file.
     Binary,
+    /// There is none.
     Empty,
 }
 
@@ -97,7 +101,8 @@ fn append_answer(
     append_rest(out, body, close)
 }
 
-/// Adds the text of an answer. `NoMemory` changes nothing.
+/// Adds the text of an answer: the status line, the type of the body unless it is `Empty`, its length, the line that
+/// closes the connection where `close` says so, an empty line and the body (RFC 9112, 4). `NoMemory` changes nothing.
 pub fn write_answer(
     out: &mut Octets,
     status: u16,
@@ -105,6 +110,7 @@ pub fn write_answer(
     body: &[u8],
     close: bool,
 ) -> Result<(), NoMemory>
+    requires { IsTrue (has_reason status) }
     ensures ok { OnOk result (out.new ≡ out.old ++ answer_text status media body.now close) }
     ensures err { OnErr result (out.new ≡ out.old) }
 {
