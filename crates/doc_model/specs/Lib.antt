@@ -3,3 +3,5 @@ pub mod Fronts
 pub mod Requests
 pub mod RequestParts
 pub mod Responses
+pub mod WrittenElements
+pub mod Weights
