@@ -3,3 +3,9 @@ pub mod Fronts
 pub mod Requests
 pub mod RequestParts
 pub mod Responses
+pub mod ElementObjects
+pub mod Groups
+pub mod Elements
+pub mod ElementParts
+pub mod Knowledges
+pub mod KnowledgeParts
