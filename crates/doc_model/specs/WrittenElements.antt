@@ -11,6 +11,7 @@ use Rattle.compact_values.specs.declared.ids.ExGuid.{ExGuid}
 use Rattle.compact_values.specs.declared.ids.Serial.{Serial}
 use Rattle.compact_values.specs.declared.ids.Serial.TheVariants.{Number}
 use Rattle.stream_objects.specs.Written.{simple_object, compound_object}
+use Rattle.doc_model.specs.Knowledges.{cell_knowledge}
 use Rattle.doc_model.specs.declared.element.ManifestMap.{ManifestMap}
 use Rattle.doc_model.specs.declared.element.CellMap.{CellMap}
 use Rattle.doc_model.specs.declared.element.RevisionMap.{RevisionMap}
@@ -159,7 +160,7 @@ ranges_bytes ranges = compound_object 0x14 [] (flat_map range_bytes ranges)
 
 -- 44, specialized knowledge, compound: the GUID of cell knowledge
 unfoldable pub cell_knowledge_bytes : List Range → List ℕ
-cell_knowledge_bytes ranges = compound_object 0x44 (guid_bytes 0x327a35f607614414968651e900667a4d) (ranges_bytes ranges)
+cell_knowledge_bytes ranges = compound_object 0x44 (guid_bytes cell_knowledge) (ranges_bytes ranges)
 
 -- 10, knowledge, compound: no fields. The two objects in it are there even where there is no range.
 unfoldable pub knowledge_bytes : Knowledge → List ℕ
