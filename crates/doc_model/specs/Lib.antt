@@ -3,3 +3,11 @@ pub mod Fronts
 pub mod Requests
 pub mod RequestParts
 pub mod Responses
+pub mod WrittenElements
+pub mod Weights
+pub mod ElementObjects
+pub mod Groups
+pub mod Elements
+pub mod ElementParts
+pub mod Knowledges
+pub mod KnowledgeParts

@@ -6,6 +6,8 @@
 //! - `element`: data elements and the objects in them
 //! - `knowledge`: which elements a client knows
 //! - `request`: what a request asks for
+//! - `sizes`: how many bytes the values of a written element take
+//! - `weighing`: how many bytes a written element takes
 //! - `reply`: what became of a call
 #![tactic(auto)]
 
@@ -14,6 +16,8 @@ mod element;
 mod knowledge;
 mod reply;
 mod request;
+mod sizes;
+mod weighing;
 
 pub use doc::Doc;
 pub use element::{
@@ -24,3 +28,8 @@ pub use element::{
 pub use knowledge::{Knowledge, Range, Ranges};
 pub use reply::{Answer, Answers, Code, Reply, Submitted};
 pub use request::{DrawRequest, DrawRequests};
+pub use sizes::{
+    cell_id_size, cells_size, compact_size, data_size, declaration_size, exguid_size, ids_size,
+    item_size, serial_size, size_if_any_size, started_size,
+};
+pub use weighing::weight;

@@ -1,0 +1,167 @@
+-- The one written form of data elements, of a package of them and of knowledge: a line an object type (MS-FSSHTTPB 2.2.1.12 and
+-- 2.2.1.13). Types are hexadecimal, kinds of elements decimal.
+use Rattle.std.specs.Prelude.{ℕ, List, [], ◌∷◌, ◌++◌, ◌==◌, length, if◌then◌else◌}
+use Rattle.std.specs.List.{flat_map}
+use Rattle.compact_values.specs.Compact.{compact}
+use Rattle.compact_values.specs.GuidBytes.{guid_bytes}
+use Rattle.compact_values.specs.Ids.{guid_spelling, exguid, serial, cell_id}
+use Rattle.compact_values.specs.Items.{item, array}
+use Rattle.compact_values.specs.declared.guid.Guid.{Guid}
+use Rattle.compact_values.specs.declared.ids.ExGuid.{ExGuid}
+use Rattle.compact_values.specs.declared.ids.Serial.{Serial}
+use Rattle.compact_values.specs.declared.ids.Serial.TheVariants.{Number}
+use Rattle.stream_objects.specs.Written.{simple_object, compound_object}
+use Rattle.doc_model.specs.Knowledges.{cell_knowledge}
+use Rattle.doc_model.specs.declared.element.ManifestMap.{ManifestMap}
+use Rattle.doc_model.specs.declared.element.CellMap.{CellMap}
+use Rattle.doc_model.specs.declared.element.RevisionMap.{RevisionMap}
+use Rattle.doc_model.specs.declared.element.Root.{Root}
+use Rattle.doc_model.specs.declared.element.RevisionRoot.{RevisionRoot}
+use Rattle.doc_model.specs.declared.element.Object.{Object}
+use Rattle.doc_model.specs.declared.element.Content.{Content}
+use Rattle.doc_model.specs.declared.element.Content.TheVariants.{Inline, Apart}
+use Rattle.doc_model.specs.declared.element.Body.{Body}
+use Rattle.doc_model.specs.declared.element.Body.TheVariants.{Index, Storage, Cell, Revision, Group, Blob}
+use Rattle.doc_model.specs.declared.element.Element.{Element}
+use Rattle.doc_model.specs.declared.element.NumberedElement.{NumberedElement}
+use Rattle.doc_model.specs.declared.knowledge.Range.{Range}
+use Rattle.doc_model.specs.declared.knowledge.Knowledge.{Knowledge}
+
+-- ---- 1, storage index (2.2.1.12.2)
+
+-- 11, manifest mapping: extended GUID target, serial number
+unfoldable pub manifest_map_bytes : ManifestMap → List ℕ
+manifest_map_bytes m = simple_object 0x11 (exguid m.target ++ serial m.serial)
+
+-- 0E, cell mapping: cell id, extended GUID target, serial number
+unfoldable pub cell_map_bytes : CellMap → List ℕ
+cell_map_bytes m = simple_object 0x0E (cell_id m.cell ++ exguid m.target ++ serial m.serial)
+
+-- 0D, revision mapping: extended GUID revision, extended GUID target, serial number
+unfoldable pub revision_map_bytes : RevisionMap → List ℕ
+revision_map_bytes m = simple_object 0x0D (exguid m.revision ++ exguid m.target ++ serial m.serial)
+
+-- ---- 2, storage manifest (2.2.1.12.3)
+
+-- 0C, schema GUID: 16 bytes
+unfoldable pub schema_bytes : Guid → List ℕ
+schema_bytes schema = simple_object 0x0C (guid_spelling schema)
+
+-- 07, manifest root: extended GUID root, cell id
+unfoldable pub root_bytes : Root → List ℕ
+root_bytes r = simple_object 0x07 (exguid r.root ++ cell_id r.cell)
+
+-- ---- 3, cell manifest (2.2.1.12.4)
+
+-- 0B, current revision: extended GUID
+unfoldable pub current_bytes : ExGuid → List ℕ
+current_bytes current = simple_object 0x0B (exguid current)
+
+-- ---- 4, revision manifest (2.2.1.12.5)
+
+-- 1A, revision manifest: extended GUID revision, extended GUID base
+unfoldable pub revision_bytes : ExGuid → ExGuid → List ℕ
+revision_bytes id base = simple_object 0x1A (exguid id ++ exguid base)
+
+-- 0A, revision root: extended GUID root, extended GUID object
+unfoldable pub revision_root_bytes : RevisionRoot → List ℕ
+revision_root_bytes r = simple_object 0x0A (exguid r.root ++ exguid r.object)
+
+-- 19, group reference: extended GUID
+unfoldable pub group_reference_bytes : ExGuid → List ℕ
+group_reference_bytes group = simple_object 0x19 (exguid group)
+
+-- ---- 5, object group (2.2.1.12.6)
+
+-- the size of a 05, which is left out where it is 0
+abbrev pub size_if_any : ℕ → List ℕ
+size_if_any size = if size == 0 then [] else compact size
+
+-- 18, object declaration: extended GUID object, compact partition, compact size, compact references, compact cell references.
+-- 05, blob declaration: extended GUID object, extended GUID blob, compact partition, compact size or nothing, compact references,
+-- compact cell references. The reference counts are the lengths of the lists.
+abbrev pub declaration_kind : Content → ℕ
+declaration_kind (Inline bytes) = 0x18
+declaration_kind (Apart blob) = 0x05
+
+abbrev pub declaration_fields : Object → Content → List ℕ
+declaration_fields o (Inline bytes) = exguid o.id ++ compact o.partition ++ compact o.size ++ compact (length o.references) ++ compact (length o.cells)
+declaration_fields o (Apart blob) = exguid o.id ++ exguid blob ++ compact o.partition ++ size_if_any o.size ++ compact (length o.references) ++ compact (length o.cells)
+
+unfoldable pub declaration_bytes : Object → List ℕ
+declaration_bytes o = simple_object (declaration_kind o.content) (declaration_fields o o.content)
+
+-- 16, object data: array of extended GUIDs, array of cell ids, binary item.
+-- 1C, blob reference: array of extended GUIDs, array of cell ids, extended GUID blob.
+abbrev pub data_kind : Content → ℕ
+data_kind (Inline bytes) = 0x16
+data_kind (Apart blob) = 0x1C
+
+abbrev pub data_fields : Object → Content → List ℕ
+data_fields o (Inline bytes) = array exguid o.references ++ array cell_id o.cells ++ item bytes
+data_fields o (Apart blob) = array exguid o.references ++ array cell_id o.cells ++ exguid blob
+
+unfoldable pub data_bytes : Object → List ℕ
+data_bytes o = simple_object (data_kind o.content) (data_fields o o.content)
+
+-- 1D, declarations, compound: no fields. 1E, group data, compound: no fields.
+unfoldable pub declarations_bytes : List Object → List ℕ
+declarations_bytes objects = compound_object 0x1D [] (flat_map declaration_bytes objects)
+
+unfoldable pub datas_bytes : List Object → List ℕ
+datas_bytes objects = compound_object 0x1E [] (flat_map data_bytes objects)
+
+-- ---- 10, object data blob (2.2.1.12.8)
+
+-- 02, blob content: binary item
+unfoldable pub blob_bytes : List ℕ → List ℕ
+blob_bytes bytes = simple_object 0x02 (item bytes)
+
+-- ---- elements
+
+abbrev pub kind_number : Body → ℕ
+kind_number (Index manifests cells revisions) = 1
+kind_number (Storage schema roots) = 2
+kind_number (Cell current) = 3
+kind_number (Revision id base roots groups) = 4
+kind_number (Group objects) = 5
+kind_number (Blob bytes) = 10
+
+-- the children of an element, in the order in which they are written
+unfoldable pub body_bytes : Body → List ℕ
+body_bytes (Index manifests cells revisions) = flat_map manifest_map_bytes manifests ++ flat_map cell_map_bytes cells ++ flat_map revision_map_bytes revisions
+body_bytes (Storage schema roots) = schema_bytes schema ++ flat_map root_bytes roots
+body_bytes (Cell current) = current_bytes current
+body_bytes (Revision id base roots groups) = revision_bytes id base ++ flat_map revision_root_bytes roots ++ flat_map group_reference_bytes groups
+body_bytes (Group objects) = declarations_bytes objects ++ datas_bytes objects
+body_bytes (Blob bytes) = blob_bytes bytes
+
+-- 01, data element, compound: extended GUID id, serial number, compact kind
+unfoldable pub element_bytes : Element → Serial → List ℕ
+element_bytes e s = compound_object 0x01 (exguid e.id ++ serial s ++ compact (kind_number e.body)) (body_bytes e.body)
+
+-- an element with its number, of a document's GUID
+unfoldable pub numbered_bytes : Guid → NumberedElement → List ℕ
+numbered_bytes guid n = element_bytes n.element (Number guid n.serial)
+
+-- 15, data element package, compound: the byte 0
+unfoldable pub package_bytes : Guid → List NumberedElement → List ℕ
+package_bytes guid elements = compound_object 0x15 (0 ∷ []) (flat_map (numbered_bytes guid) elements)
+
+-- ---- knowledge (2.2.1.13)
+
+-- 0F, cell knowledge range: 16 bytes GUID, compact from, compact to
+unfoldable pub range_bytes : Range → List ℕ
+range_bytes r = simple_object 0x0F (guid_spelling r.guid ++ compact r.from ++ compact r.to)
+
+-- 14, cell knowledge, compound: no fields
+unfoldable pub ranges_bytes : List Range → List ℕ
+ranges_bytes ranges = compound_object 0x14 [] (flat_map range_bytes ranges)
+
+-- 44, specialized knowledge, compound: the GUID of cell knowledge
+unfoldable pub cell_knowledge_bytes : List Range → List ℕ
+cell_knowledge_bytes ranges = compound_object 0x44 (guid_bytes cell_knowledge) (ranges_bytes ranges)
+
+-- 10, knowledge, compound: no fields. The two objects in it are there even where there is no range.
+unfoldable pub knowledge_bytes : Knowledge → List ℕ
+knowledge_bytes k = compound_object 0x10 [] (cell_knowledge_bytes k.ranges)
