@@ -1,9 +1,9 @@
 -- Where the bytes of a journal fail first.
-use Rattle.std.specs.Prelude.{◌≡◌, ◌⊎◌, ℕ, ◌+◌, List, [], ◌∷◌, ◌++◌, length, take, drop, nat_lt, ◌==◌, if◌then◌else◌, Some, None, Ok, Err, Result, ◌≤◌}
+use Rattle.std.specs.Prelude.{◌≡◌, ◌⊎◌, ℕ, ◌+◌, List, [], ◌∷◌, ◌++◌, length, take, drop, nat_lt, ◌==◌, if◌then◌else◌, Some, None, Ok, Err, Result, ◌≤◌, ◌<◌, ◌^◌, get_or}
 use Rattle.std.specs.declared.option.Option.{Option}
 use Rattle.compact_values.specs.declared.guid.Guid.{Guid}
 use Rattle.compact_values.specs.Reading.{number_of}
-use Rattle.cell_journal.specs.Layout.{front, AreBodies}
+use Rattle.cell_journal.specs.Layout.{front, AreBodies, Image}
 
 -- the eight bytes with which a journal begins
 abbrev pub signature : List ℕ
@@ -62,3 +62,13 @@ pub record FailsBehind (place : ℕ) (bytes : List ℕ) : Type 0 where
 -- The first place where the bytes are no journal.
 abbrev pub FailsAt : ℕ → List ℕ → Type 0
 FailsAt place bytes = (header_fault bytes ≡ Some place) ⊎ FailsBehind place bytes
+
+abbrev pub FailsSomewhere : List ℕ → Type 0
+FailsSomewhere bytes = (place : ℕ) × FailsAt place bytes
+
+-- The bytes are a journal of some GUID and some bodies.
+abbrev pub IsJournal : List ℕ → Type 0
+IsJournal bytes = (guid : Guid) × (bodies : List (List ℕ)) × (guid.number < 2 ^ 128) × Image guid bodies bytes
+
+abbrev pub AreBytes : List ℕ → Type 0
+AreBytes bytes = (i : ℕ) → get_or bytes i 0 < 256

@@ -146,12 +146,16 @@ fn read_gate<D: Disk>(disk: &mut D, at: u64, total: u64) -> Result<Option<u64>, 
 /// What a call of a reading gave.
 #[derive(Clone, Copy, Debug, PartialEq, Eq)]
 pub enum Got {
+    /// A body, in the list that was handed in.
     Body,
+    /// The end of the list: the gate is closed.
     End,
 }
 
 impl<D: Disk> Reading<D> {
-    /// Begins to read a journal, after a sync of the disk. A crash meanwhile leaves one of the disk's images.
+    /// Begins to read a journal, after a sync of the disk, which it does not change. `NotAJournal` comes exactly where the
+    /// first 24 bytes are no header, with the first place that is wrong: that of the first byte of the signature that is
+    /// another, or the disk's length. A crash meanwhile leaves one of the disk's images. A fault gives the disk back.
     pub fn begin(disk: D) -> Result<Reading<D>, (D, JournalFault)>
         ensures ok { IfOk result (λ reading. HasGiven D.seen D.may_leave reading []) }
         ensures same { IfOk result (λ reading. D.seen reading.disk ≡ D.seen disk) }
@@ -179,7 +183,9 @@ impl<D: Disk> Reading<D> {
         }
     }
 
-    /// Gives the next body, or the end. After a fault only the disk is taken back.
+    /// Gives the next body in `into`, whose bytes it replaces, or the end. `NotAJournal` comes exactly where the bytes fail
+    /// behind the bodies given so far, with that place: the disk's length where a gate, a length or a body is cut, and the
+    /// place of a length that is 0 or above 33,554,432. After a fault only the disk is taken back.
     pub fn next(&mut self, into: &mut Octets) -> Result<Got, JournalFault>
         ensures gives { (taken : List (List ℕ)) → HasGiven D.seen D.may_leave self.old taken
             → IfOk result (λ got. Gives D.seen D.may_leave got taken into.new self.new) }
@@ -215,13 +221,15 @@ impl<D: Disk> Reading<D> {
         }
     }
 
-    /// The journal that was read. It is not settled, since its closing gate may be another byte than 00.
+    /// The journal of the bodies that were given, after the end was seen. It is not settled, since the byte that closes it
+    /// may be another than 0.
     pub fn finish(self) -> Journal<D>
         requires { IsTrue self.ended }
         ensures stands { (taken : List (List ℕ)) → HasGiven D.seen D.may_leave self taken → Stands D.may_leave result taken None }
         ensures disk { result.disk ≡ self.disk }
         ensures guid { result.guid ≡ self.guid }
         ensures unsettled { result.settled ≡ false }
+        ensures count { result.count ≡ self.count }
     {
         Journal {
             disk: self.disk,
