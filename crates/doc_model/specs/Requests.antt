@@ -8,6 +8,7 @@ use Rattle.stream_objects.specs.declared.tree.Tree.{Tree}
 use Rattle.stream_objects.specs.declared.tree.Tree.TheViews.{out-Tree}
 use Rattle.stream_objects.specs.Objects.{HasFields, One, Any, kind_of, children_of}
 use Rattle.stream_objects.specs.Trees.{IsTreeAt}
+use Rattle.doc_model.specs.ElementObjects.{PackageFields}
 use Rattle.doc_model.specs.Fronts.{HasVersions, HasSignature}
 use Rattle.doc_model.specs.declared.request.DrawRequest.{DrawRequest}
 
@@ -19,15 +20,11 @@ AllocateFields input tree count = (flag : ℕ) × HasFields false (Begins (Spell
 abbrev pub SubRequestFields : List ℕ → Tree → ℕ → ℕ → Type 0
 SubRequestFields input tree id kind = (priority : ℕ) × HasFields true (Begins (SpellsCompact ▹ SpellsCompact ▹ SpellsCompact)) input tree (id, (kind, priority))
 
--- 15, compound, data element package: one byte
-abbrev pub PackageFields : List ℕ → Tree → Type 0
-PackageFields input tree = (byte : ℕ) × HasFields true SpellsByte input tree byte
-
 -- a sub-request of kind 11, allocate extended GUID range, which holds exactly one 80
 abbrev pub IsDraw : List ℕ → Tree → DrawRequest → Type 0
 IsDraw input tree draw = SubRequestFields input tree draw.id 11 × One 0x80 (AllocateFields input) tree draw.count
 
--- a package without a data element, 01
+-- 15, a package without a data element, 01
 abbrev pub IsEmptyPackage : List ℕ → Tree → Type 0
 IsEmptyPackage input tree = PackageFields input tree × (children_of 0x01 tree ≡ [])
 
