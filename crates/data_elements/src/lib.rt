@@ -2,8 +2,10 @@
 //!
 //! - `write_index`, `write_manifests`, `write_group`: the objects in an element, by its kind
 //! - `write`: elements, packages and knowledge
+//! - `laws`: what is written stands in its form
 #![tactic(auto)]
 
+pub mod laws;
 mod write;
 mod write_group;
 mod write_index;

@@ -5,6 +5,7 @@ pub mod RequestParts
 pub mod Responses
 pub mod WrittenElements
 pub mod Weights
+pub mod FittingElements
 pub mod ElementObjects
 pub mod Groups
 pub mod Elements

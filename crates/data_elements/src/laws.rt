@@ -1,0 +1,33 @@
+//! What is written stands in its form, and is read as the same again: the written bytes spell a tree, and each tree that they
+//! spell says just what was written. Each is the contract of a function that does nothing. The numbers are in the ranges of
+//! their fields, and a tree has at most 262,144 objects.
+
+ghost use Rattle.std.specs.Prelude.{◌+◌, ◌≤◌, List, length, map};
+ghost use Rattle.std.specs.List.{AllByRecursion};
+ghost use Rattle.compact_values.specs.Ids.{FitsGuid, FitsSerial};
+ghost use Rattle.compact_values.specs.declared.guid.Guid.{Guid};
+ghost use Rattle.compact_values.specs.declared.ids.Serial.{Serial};
+ghost use Rattle.doc_model.specs.Elements.{IsElementWith, IsPackage};
+ghost use Rattle.doc_model.specs.Knowledges.{IsKnowledge};
+ghost use Rattle.doc_model.specs.FittingElements.{FitsElement, FitsNumbered, FitsRange};
+ghost use Rattle.doc_model.specs.Weights.{objects_written, package_objects};
+ghost use Rattle.doc_model.specs.WrittenElements.{element_bytes, package_bytes, knowledge_bytes};
+ghost use Rattle.doc_model.specs.declared.element.Element.{Element};
+ghost use Rattle.doc_model.specs.declared.element.NumberedElement.{NumberedElement};
+ghost use Rattle.doc_model.specs.declared.knowledge.Knowledge.{Knowledge};
+ghost use Rattle.data_elements.specs.StandsAs.{StandsAs};
+
+/// An element of any kind, with its serial number.
+pub fn written_element()
+    ensures { (e : Element) (s : Serial) → FitsElement e → FitsSerial s → objects_written e ≤ 262144 → StandsAs (element_bytes e s) (λ t. IsElementWith (element_bytes e s) t s e) }
+{}
+
+/// A package: its elements in order.
+pub fn written_package()
+    ensures { (guid : Guid) (ns : List NumberedElement) → FitsGuid guid → AllByRecursion FitsNumbered ns → package_objects ns ≤ 262144 → StandsAs (package_bytes guid ns) (λ t. IsPackage (package_bytes guid ns) t (map (λ m. m.element) ns)) }
+{}
+
+/// Knowledge: its ranges in order.
+pub fn written_knowledge()
+    ensures { (k : Knowledge) → AllByRecursion FitsRange k.ranges → 3 + length k.ranges ≤ 262144 → StandsAs (knowledge_bytes k) (λ t. IsKnowledge (knowledge_bytes k) t k) }
+{}
