@@ -1,0 +1,9 @@
+pub mod RowLaws
+pub mod MemberLaws
+pub mod CheckLaws
+pub mod Links
+pub mod GroupLaws
+pub mod ElementLaws
+pub mod PackageAnswer
+pub mod KnowledgeLaws
+pub mod KnowledgeAnswer

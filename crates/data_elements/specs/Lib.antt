@@ -1,0 +1,6 @@
+pub mod Rows
+pub mod Checking
+pub mod GroupReading
+pub mod Reading
+pub mod KnowledgeReading
+pub mod Answers
