@@ -5,3 +5,12 @@ pub mod ObjectsStand
 pub mod ElementStands
 pub mod StandAlone
 pub mod PackageStands
+pub mod RowLaws
+pub mod MemberLaws
+pub mod CheckLaws
+pub mod Links
+pub mod GroupLaws
+pub mod ElementLaws
+pub mod PackageAnswer
+pub mod KnowledgeLaws
+pub mod KnowledgeAnswer

@@ -1,1 +1,7 @@
 pub mod StandsAs
+pub mod Rows
+pub mod Checking
+pub mod GroupReading
+pub mod Reading
+pub mod KnowledgeReading
+pub mod Answers

@@ -1,14 +1,35 @@
-//! Data elements, packages of them and knowledge on the wire (MS-FSSHTTPB 2.2.1.12 and 2.2.1.13).
+//! Data elements, packages of them and knowledge on the wire (MS-FSSHTTPB 2.2.1.12 and 2.2.1.13), both ways.
 //!
-//! - `write_index`, `write_manifests`, `write_group`: the objects in an element, by its kind
-//! - `write`: elements, packages and knowledge
+//! - `package`: reading the elements of a package
+//! - `body`: reading what an element says, by its kind
+//! - `group`: reading the objects of a group
+//! - `check`: which child of an element is the first that isn't in its form
+//! - `collect`: what the children of a type say
+//! - `rows`: the fields of the children of elements
+//! - `members`: the fields of the declarations and data of a group
+//! - `knowledge`: reading knowledge
+//! - `fault`: why objects are no package and no knowledge
+//! - `write_index`, `write_manifests`, `write_group`: the objects in an element, by its kind, as they are written
+//! - `write`: writing elements, packages and knowledge
 //! - `laws`: what is written stands in its form
 #![tactic(auto)]
 
+mod body;
+mod check;
+mod collect;
+mod fault;
+mod group;
+mod knowledge;
 pub mod laws;
+mod members;
+mod package;
+mod rows;
 mod write;
 mod write_group;
 mod write_index;
 mod write_manifests;
 
+pub use fault::ElementFault;
+pub use knowledge::read_knowledge;
+pub use package::read_package;
 pub use write::{write_element, write_knowledge, write_package};

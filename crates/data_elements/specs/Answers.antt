@@ -1,0 +1,54 @@
+-- What the readers answer.
+use Rattle.std.specs.Prelude.{◌≡◌, ◌≢◌, ◌⊎◌, ◌<◌, ◌≤◌, ℕ, List, length, Option, Some, None, Result, Ok, Err}
+use Rattle.stream_objects.specs.declared.tree.Tree.{Tree}
+use Rattle.stream_objects.specs.Parts.{IsFirstBroken}
+use Rattle.doc_model.specs.Elements.{IsPackage}
+use Rattle.doc_model.specs.ElementParts as elements
+use Rattle.doc_model.specs.Knowledges.{IsKnowledge}
+use Rattle.doc_model.specs.KnowledgeParts as knowledges
+use Rattle.doc_model.specs.declared.element.Element.{Element}
+use Rattle.doc_model.specs.declared.knowledge.Knowledge.{Knowledge}
+use Rattle.data_elements.specs.declared.fault.ElementFault.{ElementFault}
+use Rattle.data_elements.specs.declared.fault.ElementFault.TheVariants.{SchemaFault, TooMany, NoMemory}
+
+-- The elements of a package in form, at most 8,192; or where the fields of the first object start that isn't in its
+-- form; or all objects are in form and there are more elements.
+abbrev pub IsPackageAnswer : List ℕ → Tree → Result (List Element) ElementFault → Type 0
+IsPackageAnswer input tree (Ok elements) = IsPackage input tree elements × (length elements ≤ 8192)
+IsPackageAnswer input tree (Err (SchemaFault place)) = IsFirstBroken (elements.InOwnForm input) elements.part_start (elements.package_parts input tree) place
+IsPackageAnswer input tree (Err TooMany) = (elements : List Element) × IsPackage input tree elements × (8192 < length elements)
+IsPackageAnswer input tree (Err NoMemory) = Unit {0}
+
+-- The knowledge; or where the fields of the first object start that isn't in its form.
+abbrev pub IsKnowledgeAnswer : List ℕ → Tree → Result Knowledge ElementFault → Type 0
+IsKnowledgeAnswer input tree (Ok knowledge) = IsKnowledge input tree knowledge
+IsKnowledgeAnswer input tree (Err (SchemaFault place)) = IsFirstBroken (knowledges.InOwnForm input) knowledges.part_start (knowledges.knowledge_parts input tree) place
+IsKnowledgeAnswer input tree (Err TooMany) = ⊥
+IsKnowledgeAnswer input tree (Err NoMemory) = Unit {0}
+
+-- Unless memory ran out, it is the only answer of its kind.
+abbrev pub IsOnly : {V : Type 0} → (Result V ElementFault → Type 0) → Result V ElementFault → Type 0
+IsOnly {V} IsAnswer answer = (other : Result V ElementFault) → IsAnswer other → other ≢ Err NoMemory → (answer ≡ Err NoMemory) ⊎ (answer ≡ other)
+
+-- ---- the steps
+
+-- It is what reading gives, unless memory ran out.
+abbrev pub Gives : {V : Type 0} → Result V ElementFault → Result V ℕ → Type 0
+Gives (Ok v) read = read ≡ Ok v
+Gives (Err (SchemaFault place)) read = read ≡ Err place
+Gives (Err NoMemory) read = Unit {0}
+Gives (Err TooMany) read = ⊥
+
+-- What a step made of the values so far is what reading gives, unless memory ran out.
+abbrev pub GivesTo : {V : Type 0} → Result (Unit {0}) ElementFault → List V → Result (List V) ℕ → Type 0
+GivesTo (Ok u) values read = read ≡ Ok values
+GivesTo (Err (SchemaFault place)) values read = read ≡ Err place
+GivesTo (Err NoMemory) values read = Unit {0}
+GivesTo (Err TooMany) values read = ⊥
+
+-- It found no fault, or the first one, unless memory ran out.
+abbrev pub Passes : Result (Unit {0}) ElementFault → Option ℕ → Type 0
+Passes (Ok u) fault = fault ≡ None
+Passes (Err (SchemaFault place)) fault = fault ≡ Some place
+Passes (Err NoMemory) fault = Unit {0}
+Passes (Err TooMany) fault = ⊥

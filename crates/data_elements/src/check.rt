@@ -1,0 +1,96 @@
+// Whether the children of an element are in form.
+ghost use Rattle.std.specs.Prelude.{◌≡◌, ◌||◌, [], ◌∷◌, filter};
+ghost use Rattle.stream_objects.specs.Objects.{is_kind};
+ghost use Rattle.doc_model.specs.ElementParts.{has_place, members_in};
+ghost use Rattle.data_elements.specs.Checking.{check_at, check_members, child_fault};
+ghost use Rattle.data_elements.specs.Answers.{Passes};
+
+use crate::fault::{ElementFault, fault};
+use crate::members::member_ok;
+use crate::rows::child_ok;
+use compact_values::NoMemory;
+use std::alloc::Global;
+use stream_objects::Tree;
+
+/// Whether objects of its type have a place in an element of this kind.
+fn has_place(kind: u64, tree: &Tree) -> bool
+    ensures { result ≡ has_place kind tree.now }
+{
+    match kind {
+        1 => tree.kind == 0x11 || tree.kind == 0x0E || tree.kind == 0x0D,
+        2 => tree.kind == 0x0C || tree.kind == 0x07,
+        3 => tree.kind == 0x0B,
+        4 => tree.kind == 0x1A || tree.kind == 0x0A || tree.kind == 0x19,
+        5 => tree.kind == 0x1D || tree.kind == 0x1E,
+        _ => tree.kind == 0x02,
+    }
+}
+
+/// Whether a declaration or data are in form.
+fn check_member(alloc: Global, bytes: &[u8], tree: &Tree) -> Result<(), ElementFault>
+    ensures { Passes result (check_members bytes.now (tree.now ∷ [])) }
+{
+    match member_ok(alloc, bytes, tree) {
+        Ok(true) => Ok(()),
+        Ok(false) => Err(fault(tree)),
+        Err(NoMemory) => Err(ElementFault::NoMemory),
+    }
+}
+
+/// Whether the objects of two types are in form.
+fn check_both(
+    alloc: Global,
+    bytes: &[u8],
+    trees: &[Tree],
+    first: u16,
+    second: u16,
+) -> Result<(), ElementFault>
+    ensures { Passes result (check_members bytes.now (filter (λ c. is_kind first c || is_kind second c) trees.now)) }
+{
+    for tree in trees {
+        if tree.kind == first || tree.kind == second {
+            check_member(alloc, bytes, tree)?;
+        }
+    }
+    Ok(())
+}
+
+/// Whether what a half of a group holds is in form.
+fn check_half(alloc: Global, bytes: &[u8], tree: &Tree) -> Result<(), ElementFault>
+    ensures { Passes result (check_members bytes.now (members_in tree.now)) }
+{
+    if tree.kind == 0x1D {
+        check_both(alloc, bytes, tree.children.as_slice(), 0x18, 0x05)
+    } else if tree.kind == 0x1E {
+        check_both(alloc, bytes, tree.children.as_slice(), 0x16, 0x1C)
+    } else {
+        Ok(())
+    }
+}
+
+/// Whether a child with a place is in form, and in a group what it holds.
+#[tactic(auto, unfolding(crate::specs::Checking::child_fault))]
+fn check_child(alloc: Global, bytes: &[u8], kind: u64, tree: &Tree) -> Result<(), ElementFault>
+    ensures { Passes result (child_fault bytes.now kind tree.now) }
+{
+    if !child_ok(bytes, tree) {
+        Err(fault(tree))
+    } else if kind == 5 {
+        check_half(alloc, bytes, tree)
+    } else {
+        Ok(())
+    }
+}
+
+/// Whether the children of an element of this kind that have a place are in form, with what they hold. Else the first
+/// that isn't in its form, in reading order.
+pub fn check(alloc: Global, bytes: &[u8], kind: u64, trees: &[Tree]) -> Result<(), ElementFault>
+    ensures { Passes result (check_at bytes.now kind trees.now) }
+{
+    for tree in trees {
+        if has_place(kind, tree) {
+            check_child(alloc, bytes, kind, tree)?;
+        }
+    }
+    Ok(())
+}

@@ -1,0 +1,24 @@
+ghost use Rattle.std.specs.Prelude.{◌≡◌};
+ghost use Rattle.stream_objects.specs.Objects.{start_of};
+
+use stream_objects::Tree;
+
+/// Why objects are no package, or no knowledge.
+#[derive(Clone, Copy, Debug, PartialEq, Eq)]
+pub enum ElementFault {
+    /// An object isn't in its form. Its fields start at `place`.
+    SchemaFault { place: usize },
+    /// There are more than 8,192 elements.
+    TooMany,
+    /// No memory was left.
+    NoMemory,
+}
+
+/// The object isn't in its form.
+pub fn fault(tree: &Tree) -> ElementFault
+    ensures { result ≡ ElementFault.SchemaFault (start_of tree.now) }
+{
+    ElementFault::SchemaFault {
+        place: tree.fields.from,
+    }
+}
