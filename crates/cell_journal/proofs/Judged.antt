@@ -1,5 +1,5 @@
 -- Bytes are a journal, or there is a place where they fail.
-use Rattle.std.proofs.Common.{◌≡◌, ◌≢◌, ◌⊎◌, inl, inr, ⊎_elim, ℕ, zero, suc, ◌+◌, ◌-◌, ◌<◌, ◌≤◌, ◌^◌, List, [], ◌∷◌, ◌++◌, length, take, drop, get_or, Some, None, refl, sym, ◌∙◌, ap, subst, arith, append_assoc, length-append, length-drop, take-append-drop}
+use Rattle.std.proofs.Common.{◌≡◌, ◌⊎◌, inl, inr, ⊎_elim, ℕ, zero, suc, ◌+◌, ◌<◌, ◌≤◌, ◌^◌, List, [], ◌∷◌, ◌++◌, length, take, drop, Some, None, refl, sym, ◌∙◌, ap, subst, arith, append_assoc, length-append, length-drop, take-append-drop}
 use Rattle.std.proofs.lemmas.Grind.{common_steps}
 use Rattle.std.proofs.lemmas.List.{append-nil, get_or-drop}
 use Rattle.std.proofs.lemmas.Bool.{cases_lt, cases_eq}
@@ -13,7 +13,7 @@ use Rattle.compact_values.specs.GuidBytes.{guid_bytes, guid_number}
 use Rattle.compact_values.proofs.LittleEndian.{little_endian-number_of}
 use Rattle.compact_values.proofs.GuidLemmas.{guid_back, guid_number_below}
 use Rattle.cell_journal.specs.Layout.{header, measured, front, IsBody, AreBodies, Image}
-use Rattle.cell_journal.specs.Faults.{AreBytes, IsJournal, FailsSomewhere, signature, differs, header_fault, measured_at, step_at, FailsAt, FailsBehind, Step, Whole, Closed, Fails}
+use Rattle.cell_journal.specs.Faults.{AreBytes, IsJournal, FailsSomewhere, signature, differs, header_fault, measured_at, step_at, FailsAt, Fails}
 use Rattle.cell_journal.proofs.Images.{front-more, AreBodies-more}
 use Rattle.cell_journal.proofs.Layouts.{same_front}
 

@@ -195,6 +195,7 @@ impl<D: Disk> Reading<D> {
         ensures place { (taken : List (List ℕ)) → HasGiven D.seen D.may_leave self.old taken
             → (c : List ℕ) → D.seen self.old.disk ≡ Some c
             → (place : ℕ) → IsErrOf result (JournalFault.NotAJournal place) → FailsAt place c }
+        ensures ended { IfOk result (λ got. got ≡ Got.End → self.new.ended ≡ true) }
         ensures same { Untouched D.seen D.may_leave D.moment D.left_since self.old.disk self.new.disk }
         ensures guid { self.new.guid ≡ self.old.guid }
         ensures cause { HasDiskCause (D.faults self.old.disk) (D.faults self.new.disk) result }

@@ -1,5 +1,4 @@
 use Rattle.std.proofs.Common.{◌≡◌, None, sym, ◌∙◌, arith}
-use Rattle.std.specs.declared.option.Option.{Option}
 use Rattle.cell_journal.specs.Faults.{signature, differs}
 use Rattle.cell_journal.proofs.Layouts.{header_is, header_whole}
 use Rattle.cell_journal.proofs.reading.header_in.Goals as goal
