@@ -1,13 +1,16 @@
 -- What a whole body is, by its framing.
-use Rattle.std.proofs.Common.{◌≡◌, ◌⊎◌, ◌<◌, ◌≤◌, ◌+◌, ◌-◌, ℕ, List, [], ◌∷◌, ◌++◌, length, take, Some, None, arith, ap, sym, subst, refl, ◌∙◌, inl, inr, append_assoc, append-nil}
+use Rattle.std.proofs.Common.{◌≡◌, ◌⊎◌, ◌<◌, ◌≤◌, ◌-◌, ℕ, List, [], ◌∷◌, ◌++◌, length, take, Some, arith, ap, sym, subst, refl, ◌∙◌, inl, inr, append_assoc, append-nil}
 use Rattle.std.proofs.lemmas.Grind.{common_steps}
 use Rattle.http_head.specs.declared.body.Framing.TheVariants.{Length, Chunks}
 use Rattle.http_head.specs.declared.body.Place.{Place}
 use Rattle.http_head.specs.declared.body.Place.TheVariants.{Counted, Line, Chunk, ChunkReturn, ChunkFeed, LastReturn, LastFeed, Whole, Malformed, TooLarge}
-use Rattle.http_head.specs.declared.body.Fed.TheVariants.{Done}
-use Rattle.http_head.specs.Bodies.{Reading, Goes, counted, settled, IsBodyOf}
+use Rattle.http_head.specs.declared.body.Fed.{Fed}
+use Rattle.http_head.specs.declared.body.Framing.{Framing}
+use Rattle.http_head.specs.declared.body.Fed.TheVariants.{More, Done, Bad}
+use Rattle.http_head.specs.Bodies.{Reading, Goes, Feeds, fresh, counted, settled, IsBodyOf}
 use Rattle.http_head.specs.Chunked.{IsChunked}
 use Rattle.http_head.proofs.Chunking.{reading, whole_stays, from_is, chunked_goes, goes_chunked}
+use Rattle.http_head.proofs.Cutting.{each_as_whole, outcomes_are_one}
 use Rattle.http_head.proofs.Goings.{Goes-counted, counted_more}
 use Rattle.http_head.proofs.Settling.{none_is}
 
@@ -95,3 +98,18 @@ chunks_found used bytes body (t, x, is) =
 pub chunks_hold : (used : ℕ) (bytes body : List ℕ) → (used ≤ length bytes) × IsChunked (take used bytes) body → IsBodyOf Chunks bytes used body
 chunks_hold used bytes body (within, x) =
     (reading Whole [] body, record { within = within; goes = chunked_goes (take used bytes) body x; answer = refl }, refl)
+
+-- what is refused is no body, however it goes on
+bad_not_more : (status : ℕ) → ◌≡◌ {A = Fed} (Bad status) More → ⊥
+bad_not_more status e = cc
+
+bad_not_done : (status used : ℕ) → ◌≡◌ {A = Fed} (Bad status) (Done used) → ⊥
+bad_not_done status used e = cc
+
+pub refused_stays : (framing : Framing) (bytes more body : List ℕ) (t : Reading) (status used : ℕ) → Feeds (fresh framing) bytes t (Bad status)
+    → IsBodyOf framing (bytes ++ more) used body → ⊥
+refused_stays framing bytes more body t status used x (u, y, is) =
+    let whole : Feeds (fresh framing) (bytes ++ more) t (Bad status) =
+    subst (λ (l : List ℕ). Feeds (fresh framing) (bytes ++ l) t (Bad status)) (append-nil more)
+    (each_as_whole (bytes ∷ more ∷ []) (fresh framing) t (Bad status) (inl (x, bad_not_more status))) in
+    bad_not_done status used (outcomes_are_one (fresh framing) t u (bytes ++ more) (Bad status) (Done used) whole y).1

@@ -1,14 +1,14 @@
 -- A body that goes on byte by byte to its end in chunks is one of the grammar, and the other way round.
-use Rattle.std.proofs.Common.{◌≡◌, ◌⊎◌, ◌<◌, ◌≤◌, ◌+◌, ◌-◌, ℕ, List, [], ◌∷◌, ◌++◌, length, take, Bool, true, false, ◌&&◌, nat_eq, nat_le, IsTrue, Some, None, arith, ap, sym, subst, refl, ◌∙◌, inl, inr, append_assoc, append-nil, if◌then◌else◌, not, length-append}
+use Rattle.std.proofs.Common.{◌≡◌, ◌⊎◌, ◌<◌, ◌≤◌, ◌+◌, ◌-◌, ℕ, List, [], ◌∷◌, ◌++◌, length, Bool, true, false, ◌&&◌, nat_eq, Some, None, arith, ap, sym, subst, refl, ◌∙◌, inl, inr, append_assoc, append-nil, if◌then◌else◌, length-append}
 use Rattle.std.proofs.lemmas.Grind.{common_steps}
 use Rattle.std.specs.declared.option.Option.{Option}
 use Rattle.std.specs.List.{list_all}
 use Rattle.httparse.specs.Ascii.{line_feed, carriage_return}
 use Rattle.http_head.specs.declared.body.Place.{Place}
-use Rattle.http_head.specs.declared.body.Place.TheVariants.{Counted, Line, Chunk, ChunkReturn, ChunkFeed, LastReturn, LastFeed, Whole, Malformed, TooLarge}
-use Rattle.http_head.specs.Bodies.{Reading, IsSizeOf, LineStep, Step, Goes, after_line, inside_line, at, chunked, counted}
+use Rattle.http_head.specs.declared.body.Place.TheVariants.{Line, Chunk, ChunkReturn, ChunkFeed, LastReturn, LastFeed, Whole, Malformed, TooLarge}
+use Rattle.http_head.specs.Bodies.{Reading, IsSizeOf, Goes, after_line, inside_line, chunked}
 use Rattle.http_head.specs.Chunked.{is_not_feed, IsLine, OneChunk, print_chunks, held, AreChunks, IsChunked}
-use Rattle.http_head.proofs.Goings.{Goes-append, Goes-chunked, Goes-counted}
+use Rattle.http_head.proofs.Goings.{Goes-append, Goes-chunked}
 use Rattle.http_head.proofs.OneReading.{decide}
 
 abbrev pub reading : Place → List ℕ → List ℕ → Reading

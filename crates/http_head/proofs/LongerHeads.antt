@@ -1,10 +1,10 @@
 -- What is found of a head stays so, however the bytes go on.
-use Rattle.std.proofs.Common.{◌≡◌, ◌≢◌, ◌<◌, ◌≤◌, ℕ, List, ◌++◌, length, take, IsTrue, arith, ap, sym, subst, refl, ◌∙◌}
+use Rattle.std.proofs.Common.{◌≢◌, ◌≤◌, ℕ, List, ◌++◌, length, take, IsTrue, arith, sym, subst, refl}
 use Rattle.std.proofs.lemmas.Grind.{common_steps}
 use Rattle.std.proofs.lemmas.List.{take-append-le}
 use Rattle.http_head.specs.declared.head.HeadEnd.{HeadEnd}
 use Rattle.http_head.specs.declared.head.HeadEnd.TheVariants.{More, TooLong, At}
-use Rattle.http_head.specs.Heads.{ends_head, HasNoHeadEnd, IsHeadOf, FindsHeadEnd}
+use Rattle.http_head.specs.Heads.{ends_head, FindsHeadEnd}
 
 front_ends : (bytes more : List ℕ) (n : ℕ) → n ≤ length bytes → IsTrue (ends_head (take n (bytes ++ more))) → IsTrue (ends_head (take n bytes))
 front_ends bytes more n within is = subst (λ (l : List ℕ). IsTrue (ends_head l)) (take-append-le n bytes more within) is

@@ -1,5 +1,5 @@
 -- A body in chunks, as a grammar (RFC 9112, 7.1, without trailers).
-use Rattle.std.specs.Prelude.{◌≡◌, ℕ, ◌+◌, ◌<◌, ◌≤◌, List, [], ◌∷◌, ◌++◌, length, Bool, not, ◌==◌, IsTrue, Some, codes}
+use Rattle.std.specs.Prelude.{◌≡◌, ℕ, ◌+◌, ◌<◌, ◌≤◌, List, [], ◌∷◌, ◌++◌, length, Bool, not, ◌==◌, IsTrue, Some}
 use Rattle.std.specs.List.{list_all}
 use Rattle.httparse.specs.Ascii.{line_feed, carriage_return}
 use Rattle.http_head.specs.Bodies.{IsSizeOf}

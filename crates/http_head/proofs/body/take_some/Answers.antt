@@ -1,4 +1,4 @@
-use Rattle.std.proofs.Common.{ap, ◌∙◌, ◌-◌}
+use Rattle.std.proofs.Common.{ap, ◌∙◌}
 use Rattle.http_head.specs.Bodies.{counted, chunked}
 use Rattle.http_head.proofs.Goings.{Goes-counted_run, Goes-chunked_run}
 use Rattle.http_head.proofs.body.take_some.Goals as goal
