@@ -24,3 +24,6 @@ mod rows;
 pub use fault::ElementFault;
 pub use knowledge::read_knowledge;
 pub use package::read_package;
+
+#[cfg(test)]
+mod tests;
