@@ -279,8 +279,8 @@ fn read_objects(
         if tree.kind == 0x16 || tree.kind == 0x1C {
             match left {
                 [] => return Err(fault(tree)),
-                [first, rest @ ..] => {
-                    let object = read_object(alloc, bytes, *first, tree)?;
+                [next, rest @ ..] => {
+                    let object = read_object(alloc, bytes, *next, tree)?;
                     match objects.push(object) {
                         Ok(()) => {}
                         Err(NoMemory) => return Err(ElementFault::NoMemory),

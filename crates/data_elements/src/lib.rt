@@ -33,3 +33,6 @@ pub use fault::ElementFault;
 pub use knowledge::read_knowledge;
 pub use package::read_package;
 pub use write::{write_element, write_knowledge, write_package};
+
+#[cfg(test)]
+mod tests;
