@@ -12,3 +12,6 @@ mod write_index;
 mod write_manifests;
 
 pub use write::{write_element, write_knowledge, write_package};
+
+#[cfg(test)]
+mod write_tests;
