@@ -36,3 +36,5 @@ pub use write::{write_element, write_knowledge, write_package};
 
 #[cfg(test)]
 mod tests;
+#[cfg(test)]
+mod write_tests;
