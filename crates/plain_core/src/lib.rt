@@ -1,0 +1,2 @@
+//! A document kept as its lists: each call looks through them.
+#![tactic(auto)]

@@ -1,0 +1,2 @@
+//! Binary requests (MS-FSSHTTPB 2.2.2), read and written.
+#![tactic(auto)]
