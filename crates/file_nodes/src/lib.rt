@@ -10,3 +10,6 @@ mod file_elements;
 mod file_objects;
 
 pub use chunking::{Chunked, chunk};
+
+#[cfg(test)]
+mod tests;
