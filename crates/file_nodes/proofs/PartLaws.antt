@@ -1,16 +1,17 @@
 -- What holds of the parts of a file.
-use Rattle.std.proofs.Common.{◌≡◌, ℕ, zero, suc, ◌+◌, ◌-◌, ◌*◌, ◌/◌, ◌%◌, ◌<◌, ◌≤◌, min, true, false, if◌then◌else◌, List, [], ◌∷◌, ◌++◌, length, map, refl, sym, ap, ◌∙◌, arith, append_assoc, inl, inr}
+use Rattle.std.proofs.Common.{◌≡◌, ℕ, zero, suc, ◌+◌, ◌-◌, ◌*◌, ◌/◌, ◌%◌, ◌<◌, ◌≤◌, min, true, false, if◌then◌else◌, List, [], ◌∷◌, ◌++◌, length, map, refl, sym, ap, ◌∙◌, arith, append_assoc, inl, inr, Result, Ok, Err, IfOk, OnOk}
 use Rattle.std.specs.List.{flat_map, range_with_len}
 use Rattle.std.specs.Int.{div_ceil}
 use Rattle.std.proofs.lemmas.Bool.{cases_lt, le-leb, lt-leb}
-use Rattle.std.proofs.lemmas.List.{length-append, append-nil, nil_from_length}
+use Rattle.std.proofs.lemmas.Grind.{flat_map-append}
+use Rattle.std.proofs.lemmas.List.{length-append, length-map, map-append, append-nil, nil_from_length}
 use Rattle.sha2.specs.Sha256.{sha256}
 use Rattle.compact_values.specs.declared.guid.Guid.{Guid}
 use Rattle.compact_values.specs.declared.ids.ExGuid.{ExGuid}
 use Rattle.doc_model.specs.declared.element.Object.{Object}
 use Rattle.file_nodes.specs.Pieces.{pieces}
 use Rattle.file_nodes.specs.Chunks.{id_of}
-use Rattle.file_nodes.specs.Chunking.{Part, Levels, inline, leaf, node, node_bytes, numbered, objects_of, ids_of, joined_files, levels_within, leaves, levels}
+use Rattle.file_nodes.specs.Chunking.{Part, Levels, inline, leaf, node, node_bytes, numbered, objects_of, ids_of, joined_files, levels_within, leaves, levels, file_objects}
 use Rattle.file_nodes.proofs.PieceLaws.{pieces-nil, pieces-front, pieces-append, flat_map-pieces, length-pieces}
 
 -- ---- parts with consecutive values
@@ -155,8 +156,96 @@ levels-many bytes guid v f g =
     let groups = length-pieces 64 (leaves bytes guid v) (omega arith) in
     two_within (length (leaves bytes guid v)) guid v (leaves bytes guid v) f (omega arith) (omega arith)
 
+-- ---- the levels of a file, by how many leaves it has
+
+module _ (bytes : List ℕ) (guid : Guid) (v : ℕ) where
+  pub top-few : div_ceil (length bytes) 65536 ≤ 64 → ids_of (levels bytes guid v).top ≡ map (id_of guid) (range_with_len v (div_ceil (length bytes) 65536))
+  top-few f =
+      let count = length-leaves bytes guid v in
+      ap (λ (l : Levels). ids_of l.top) (levels-few bytes guid v (omega arith)) ∙ ids_of-leaves bytes guid v
+
+  pub all-few : div_ceil (length bytes) 65536 ≤ 64 → objects_of (levels bytes guid v).all ≡ objects_of (leaves bytes guid v)
+  all-few f =
+      let count = length-leaves bytes guid v in
+      ap (λ (l : Levels). objects_of l.all) (levels-few bytes guid v (omega arith))
+
+  pub top-many : 64 < div_ceil (length bytes) 65536 → length bytes ≤ 16777216
+      → ids_of (levels bytes guid v).top ≡ map (id_of guid) (range_with_len (v + div_ceil (length bytes) 65536) (div_ceil (length bytes) 4194304))
+  top-many f g =
+      let count = length-leaves bytes guid v in
+      let first = v + length (leaves bytes guid v) in
+      let groups = pieces 64 (leaves bytes guid v) in
+      ap (λ (l : Levels). ids_of l.top) (levels-many bytes guid v (omega arith) g)
+      ∙ ids_of-numbered (node 0x1F guid) guid (λ n ps. refl) first groups
+      ∙ ap (λ (n : ℕ). map (id_of guid) (range_with_len first n)) (sym (length-numbered (node 0x1F guid) first groups) ∙ length-nodes 0x1F guid v first bytes)
+      ∙ ap (λ (n : ℕ). map (id_of guid) (range_with_len (v + n) (div_ceil (length bytes) 4194304))) count
+
+  pub all-many : 64 < div_ceil (length bytes) 65536 → length bytes ≤ 16777216
+      → objects_of (levels bytes guid v).all ≡ objects_of (leaves bytes guid v) ++ objects_of (numbered (node 0x1F guid) (v + div_ceil (length bytes) 65536) (pieces 64 (leaves bytes guid v)))
+  all-many f g =
+      let count = length-leaves bytes guid v in
+      let first = v + length (leaves bytes guid v) in
+      let nodes : ℕ → List Part = λ n. numbered (node 0x1F guid) (v + n) (pieces 64 (leaves bytes guid v)) in
+      ap (λ (l : Levels). objects_of l.all) (levels-many bytes guid v (omega arith) g)
+      ∙ map-append (λ (p : Part). p.object) (leaves bytes guid v) (nodes (length (leaves bytes guid v)))
+      ∙ ap (λ (n : ℕ). objects_of (leaves bytes guid v) ++ objects_of (nodes n)) count
+
+  -- the leaves and the nodes are no more than 260
+  pub length-all : length bytes ≤ 16777216 → length (objects_of (levels bytes guid v).all) ≤ 260
+  length-all g =
+      let count = length-leaves bytes guid v in
+      elim (cases_lt 64 (div_ceil (length bytes) 65536)) [
+        | inl many ↦
+            let nodes = numbered (node 0x1F guid) (v + div_ceil (length bytes) 65536) (pieces 64 (leaves bytes guid v)) in
+            omega (
+              arith,
+              ap length (all-many many g),
+              length-append (objects_of (leaves bytes guid v)) (objects_of nodes),
+              length-map (leaves bytes guid v) (λ (p : Part). p.object),
+              length-map nodes (λ (p : Part). p.object),
+              length-nodes 0x1F guid v (v + div_ceil (length bytes) 65536) bytes
+            )
+        | inr few ↦ omega (arith, ap length (all-few few), length-map (leaves bytes guid v) (λ (p : Part). p.object))
+      ]
+
+pub length-file_objects : (bytes : List ℕ) (guid : Guid) (v : ℕ) → length bytes ≤ 16777216 → length (file_objects bytes guid v) ≤ 261
+length-file_objects bytes guid v f = omega (arith, length-all bytes guid (v + 1) f)
+
+-- ---- the root
+
+-- its file is that of all parts of the top level
+joined-many : (guid : Guid) (v : ℕ) (groups : List (List Part)) → joined_files (numbered (node 0x1F guid) v groups) ≡ joined_files (flat_map (λ g. g) groups)
+joined-many guid v [] = refl
+joined-many guid v (g ∷ groups) =
+    ap (λ (l : List ℕ). joined_files g ++ l) (joined-many guid (v + 1) groups) ∙ sym (flat_map-append (λ (p : Part). p.file) g (flat_map (λ h. h) groups))
+
+pub joined_files-top : (bytes : List ℕ) (guid : Guid) (v : ℕ) → length bytes ≤ 16777216 → joined_files (levels bytes guid v).top ≡ bytes
+joined_files-top bytes guid v f =
+    let count = length-leaves bytes guid v in
+    elim (cases_lt 64 (div_ceil (length bytes) 65536)) [
+      | inl many ↦
+          ap (λ (l : Levels). joined_files l.top) (levels-many bytes guid v (omega arith) f)
+          ∙ joined-many guid (v + length (leaves bytes guid v)) (pieces 64 (leaves bytes guid v))
+          ∙ ap joined_files (flat_map-pieces 64 (leaves bytes guid v) (omega arith))
+          ∙ joined_files-leaves bytes guid v
+      | inr few ↦ ap (λ (l : Levels). joined_files l.top) (levels-few bytes guid v (omega arith)) ∙ joined_files-leaves bytes guid v
+    ]
+
+pub root_is : (bytes : List ℕ) (guid : Guid) (v : ℕ) (ids : List ExGuid) → length bytes ≤ 16777216 → ids ≡ ids_of (levels bytes guid (v + 1)).top
+    → inline guid v ids (node_bytes 0x20 (sha256 bytes) (length bytes)) ≡ (node 0x20 guid v (levels bytes guid (v + 1)).top).object
+root_is bytes guid v ids f e = sym (node_is 0x20 guid v (levels bytes guid (v + 1)).top ids bytes (sym e) (joined_files-top bytes guid (v + 1) f))
+
 -- ---- one thing more at the end of a list
 
 pub pushed : {X : Type 0} (old new left after all : List X) (x y : X) → new ≡ old ++ x ∷ [] → x ≡ y → left ≡ y ∷ after → old ++ left ≡ all → new ++ after ≡ all
 pushed {X} old new left after all x y e f g h =
     ap (λ (l : List X). l ++ after) (e ∙ ap (λ (z : X). old ++ z ∷ []) f) ∙ append_assoc old (y ∷ []) after ∙ ap (λ (l : List X). old ++ l) (sym g) ∙ h
+
+-- an answer that is one thing is the other, where they are the same
+pub ok_is : {X E : Type 0} (r : Result X E) (x y : X) → IfOk r (λ z. z ≡ x) → x ≡ y → IfOk r (λ z. z ≡ y)
+ok_is (Ok z) x y f e = f ∙ e
+ok_is (Err z) x y f e = tt
+
+pub on_ok_is : {X T E : Type 0} (r : Result T E) (z x y : X) → OnOk r (z ≡ x) → x ≡ y → OnOk r (z ≡ y)
+on_ok_is (Ok t) z x y f e = f ∙ e
+on_ok_is (Err t) z x y f e = tt

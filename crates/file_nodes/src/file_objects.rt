@@ -218,7 +218,8 @@ pub fn file_objects(
 ) -> Result<Objects, NoMemory>
     requires short { length file.now ≤ 16777216 }
     requires room { first ≤ 4000000006 }
-    ensures { IfOk result (λ objects. objects ≡ file_objects file.now guid first) }
+    ensures objects { IfOk result (λ objects. objects ≡ file_objects file.now guid first) }
+    ensures few { IfOk result (λ objects. length objects ≤ 261) }
 {
     let references = top_ids(alloc, file, guid, first + 1)?;
     let mut objects = Seq::new(alloc);
