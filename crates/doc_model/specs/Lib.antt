@@ -1,3 +1,5 @@
+pub mod Limits
+pub mod Turns
 pub mod Drawing
 pub mod Fronts
 pub mod Requests
@@ -12,3 +14,15 @@ pub mod Elements
 pub mod ElementParts
 pub mod Knowledges
 pub mod KnowledgeParts
+pub mod Finding
+pub mod Contents
+pub mod Reached
+pub mod Nodes
+pub mod FileObjects
+pub mod Files
+pub mod Pulls
+pub mod Locks
+pub mod LockSteps
+pub mod Sound
+pub mod Puts
+pub mod Apply
