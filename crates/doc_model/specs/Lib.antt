@@ -12,3 +12,4 @@ pub mod Elements
 pub mod ElementParts
 pub mod Knowledges
 pub mod KnowledgeParts
+pub mod Nodes
