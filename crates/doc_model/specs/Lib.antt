@@ -26,3 +26,4 @@ pub mod LockSteps
 pub mod Sound
 pub mod Puts
 pub mod Apply
+pub mod Nodes
