@@ -12,3 +12,6 @@ pub mod Elements
 pub mod ElementParts
 pub mod Knowledges
 pub mod KnowledgeParts
+pub mod NumberedElements
+pub mod SeenResponses
+pub mod ResponseParts

@@ -9,6 +9,7 @@
 //! - `sizes`: how many bytes the values of a written element take
 //! - `weighing`: how many bytes a written element takes
 //! - `reply`: what became of a call
+//! - `response`: what a client reads of a response
 #![tactic(auto)]
 
 mod doc;
@@ -16,6 +17,7 @@ mod element;
 mod knowledge;
 mod reply;
 mod request;
+mod response;
 mod sizes;
 mod weighing;
 
@@ -28,6 +30,7 @@ pub use element::{
 pub use knowledge::{Knowledge, Range, Ranges};
 pub use reply::{Answer, Answers, Code, Reply, Submitted};
 pub use request::{DrawRequest, DrawRequests};
+pub use response::{CellResponse, ReplyForm, Seen, Seens};
 pub use sizes::{
     cell_id_size, cells_size, compact_size, data_size, declaration_size, exguid_size, ids_size,
     item_size, serial_size, size_if_any_size, started_size,
