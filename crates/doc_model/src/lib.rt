@@ -14,6 +14,7 @@
 //! - `sizes`: how many bytes the values of a written element take
 //! - `weighing`: how many bytes a written element takes
 //! - `reply`: what became of a call
+//! - `response`: what a client reads of a response
 #![tactic(auto)]
 
 mod call;
@@ -27,6 +28,7 @@ mod lock;
 mod reply;
 mod request;
 mod same;
+mod response;
 mod sizes;
 mod weighing;
 
@@ -43,6 +45,7 @@ pub use knowledge::{Knowledge, Range, Ranges};
 pub use lock::{Coauthors, LockKind, LockRecord, LockStep, Member, Members};
 pub use reply::{Answer, Answers, Code, Reply, Submitted};
 pub use request::{DrawRequest, DrawRequests};
+pub use response::{CellResponse, ReplyForm, Seen, Seens};
 pub use sizes::{
     cell_id_size, cells_size, compact_size, data_size, declaration_size, exguid_size, ids_size,
     item_size, serial_size, size_if_any_size, started_size,
