@@ -1,7 +1,10 @@
 pub mod Drawing
 pub mod Fronts
+pub mod Walks
 pub mod Requests
 pub mod RequestParts
+pub mod WrittenRequests
+pub mod FittingRequests
 pub mod Responses
 pub mod WrittenElements
 pub mod Weights
