@@ -2,8 +2,11 @@ pub mod Limits
 pub mod Turns
 pub mod Drawing
 pub mod Fronts
+pub mod Walks
 pub mod Requests
 pub mod RequestParts
+pub mod WrittenRequests
+pub mod FittingRequests
 pub mod Responses
 pub mod WrittenElements
 pub mod Weights

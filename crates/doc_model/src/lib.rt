@@ -46,6 +46,7 @@ pub use lock::{Coauthors, LockKind, LockRecord, LockStep, Member, Members};
 pub use reply::{Answer, Answers, Code, Reply, Submitted};
 pub use request::{DrawRequest, DrawRequests};
 pub use response::{CellResponse, ReplyForm, Seen, Seens};
+pub use request::{CellRequest, WireKind, WireSub, WireSubs};
 pub use sizes::{
     cell_id_size, cells_size, compact_size, data_size, declaration_size, exguid_size, ids_size,
     item_size, serial_size, size_if_any_size, started_size,
