@@ -29,7 +29,6 @@ pub mod LockSteps
 pub mod Sound
 pub mod Puts
 pub mod Apply
-pub mod Nodes
 pub mod NumberedElements
 pub mod SeenResponses
 pub mod ResponseParts
