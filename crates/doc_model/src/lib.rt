@@ -27,8 +27,8 @@ mod knowledge;
 mod lock;
 mod reply;
 mod request;
-mod same;
 mod response;
+mod same;
 mod sizes;
 mod weighing;
 
@@ -44,9 +44,8 @@ pub use element::{
 pub use knowledge::{Knowledge, Range, Ranges};
 pub use lock::{Coauthors, LockKind, LockRecord, LockStep, Member, Members};
 pub use reply::{Answer, Answers, Code, Reply, Submitted};
-pub use request::{DrawRequest, DrawRequests};
-pub use response::{CellResponse, ReplyForm, Seen, Seens};
 pub use request::{CellRequest, WireKind, WireSub, WireSubs};
+pub use response::{CellResponse, ReplyForm, Seen, Seens};
 pub use sizes::{
     cell_id_size, cells_size, compact_size, data_size, declaration_size, exguid_size, ids_size,
     item_size, serial_size, size_if_any_size, started_size,
