@@ -9,6 +9,7 @@
 //! - `members`: the fields of the declarations and data of a group
 //! - `knowledge`: reading knowledge
 //! - `fault`: why objects are no package and no knowledge
+//! - `wire_fault`: why bytes are no request and no response
 //! - `write_index`, `write_manifests`, `write_group`: the objects in an element, by its kind, as they are written
 //! - `write`: writing elements, packages and knowledge
 //! - `laws`: what is written stands in its form
@@ -24,6 +25,7 @@ pub mod laws;
 mod members;
 mod package;
 mod rows;
+mod wire_fault;
 mod write;
 mod write_group;
 mod write_index;
@@ -32,6 +34,7 @@ mod write_manifests;
 pub use fault::ElementFault;
 pub use knowledge::read_knowledge;
 pub use package::read_package;
+pub use wire_fault::WireFault;
 pub use write::{write_element, write_knowledge, write_package};
 
 #[cfg(test)]
