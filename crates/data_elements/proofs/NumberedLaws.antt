@@ -109,8 +109,8 @@ module _ (input : List ℕ) (fits : IsBytes input) where
   again_numbered : (t : Tree) (n : NumberedElement) → IsNumbered input t n → numbered_at input t ≡ Ok n
   unfolding numbered_at
   again_numbered t n h =
-      ap (numbered_with input t) (element_again input fits t (n.element.id, (Number h.0 n.serial, h.1)) h.2)
-      ∙ ap (numbered_of n.element.id n.serial) (again_body input fits t h.1 n.element.body h.3)
+      ap (numbered_with input t) (element_again input fits t (n.element.id, (Number h.0 n.serial, h.1.0)) h.1.1)
+      ∙ ap (numbered_of n.element.id n.serial) (again_body input fits t h.1.0 n.element.body h.1.2)
 
   -- ---- a package
 
