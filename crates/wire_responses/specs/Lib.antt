@@ -1,0 +1,2 @@
+pub mod ResponseReading
+pub mod ResponseAnswers
