@@ -1,0 +1,2 @@
+pub mod Cataloging
+pub mod Keeping
