@@ -1,1 +1,2 @@
 pub mod AlongBases
+pub mod FoundPlaces

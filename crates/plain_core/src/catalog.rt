@@ -1,55 +1,71 @@
 // The elements of a document, found by their ids, and what they say.
-ghost use Rattle.std.specs.Prelude.{◌≡◌, ◌++◌, option_map, option_copied};
+ghost use Rattle.std.specs.Prelude.{◌≡◌, ◌++◌, map, IfOk, option_map, option_copied, slice_get};
 ghost use Rattle.doc_model.specs.Finding.{find_element, said, as_storage, as_cell, as_group, as_blob, as_index, as_revision};
-ghost use Rattle.plain_core.specs.Cataloging.{listed, seen_mappings, seen_manifest};
 
-use compact_values::{ExGuid, Ids, Octets};
-use doc_model::{
-    Body, CellMaps, Element, ManifestMaps, Objects, RevisionMaps, RevisionRoots, Roots,
-};
+use crate::sayings::{Manifest, Mappings};
+use compact_values::{ExGuid, IdIndex, NoMemory, Octets, Seq};
+use doc_model::{Body, Element, Elements, Objects, Roots};
+use std::alloc::Global;
 
-/// The elements that a document has, and those that a call would add behind them.
-#[derive(Clone, Copy)]
+/// The elements that a document has, and those that a call adds behind them, found by their ids.
+#[derive(Drop)]
 pub struct Catalog<'a> {
-    pub added: &'a [Element],
-    pub fresh: &'a [Element],
+    added: &'a [Element],
+    fresh: Elements,
+    index: IdIndex,
+    ghost indexed: { index ≡ map (λ e. e.id) (added.now ++ fresh) },
 }
 
-/// The mappings of an index.
-#[derive(Clone, Copy)]
-pub struct Mappings<'a> {
-    pub manifests: &'a ManifestMaps,
-    pub cells: &'a CellMaps,
-    pub revisions: &'a RevisionMaps,
-}
-
-/// What a revision manifest says.
-#[derive(Clone, Copy)]
-pub struct Manifest<'a> {
-    pub base: ExGuid,
-    pub roots: &'a RevisionRoots,
-    pub groups: &'a Ids,
-}
-
-fn find_in(elements: &[Element], id: ExGuid) -> Option<&Element>
-    ensures { option_copied result ≡ find_element elements.now id }
+// An index of the ids of these elements.
+fn index_of(alloc: Global, elements: &[Element]) -> Result<IdIndex, NoMemory>
+    ensures { IfOk result (λ index. index ≡ map (λ e. e.id) elements.now) }
 {
-    elements.iter().find(|e| e.id.is(id))
+    let mut index = IdIndex::new(alloc);
+    for element in elements {
+        index.push(element.id)?;
+    }
+    Ok(index)
+}
+
+// The element at this place in both together.
+fn at<'a>(added: &'a [Element], fresh: &'a [Element], place: usize) -> Option<&'a Element>
+    ensures { option_copied result ≡ slice_get (added.now ++ fresh.now) place }
+{
+    if place < added.len() {
+        added.get(place)
+    } else {
+        fresh.get(place - added.len())
+    }
 }
 
 impl<'a> Catalog<'a> {
+    ghost use Rattle.plain_core.specs.Cataloging.{listed};
+    ghost use Rattle.plain_core.specs.Sayings.{seen_mappings, seen_manifest};
+
+    /// These elements, with none behind them.
+    pub fn new(alloc: Global, added: &'a [Element]) -> Result<Catalog<'a>, NoMemory>
+        ensures { IfOk result (λ c. listed c ≡ added.now) }
+    {
+        let index = index_of(alloc, added)?;
+        Ok(Catalog {
+            added,
+            fresh: Seq::new(alloc),
+            index,
+        })
+    }
+
     /// The element with this id.
-    pub fn find(&self, id: ExGuid) -> Option<&'a Element>
+    pub fn find(&self, id: ExGuid) -> Option<&Element>
         ensures { option_copied result ≡ find_element (listed self.now) id }
     {
-        match find_in(self.added, id) {
-            Some(element) => Some(element),
-            None => find_in(self.fresh, id),
+        match self.index.place(id) {
+            None => None,
+            Some(place) => at(self.added, self.fresh.as_slice(), place),
         }
     }
 
     /// The roots of a storage manifest.
-    pub fn storage_at(&self, id: ExGuid) -> Option<&'a Roots>
+    pub fn storage_at(&self, id: ExGuid) -> Option<&Roots>
         ensures { option_copied result ≡ said as_storage (listed self.now) id }
     {
         match self.find(id) {
@@ -75,7 +91,7 @@ impl<'a> Catalog<'a> {
     }
 
     /// The objects of a group.
-    pub fn group_at(&self, id: ExGuid) -> Option<&'a Objects>
+    pub fn group_at(&self, id: ExGuid) -> Option<&Objects>
         ensures { option_copied result ≡ said as_group (listed self.now) id }
     {
         match self.find(id) {
@@ -88,7 +104,7 @@ impl<'a> Catalog<'a> {
     }
 
     /// The bytes of a blob.
-    pub fn blob_at(&self, id: ExGuid) -> Option<&'a Octets>
+    pub fn blob_at(&self, id: ExGuid) -> Option<&Octets>
         ensures { option_copied result ≡ said as_blob (listed self.now) id }
     {
         match self.find(id) {
@@ -101,7 +117,7 @@ impl<'a> Catalog<'a> {
     }
 
     /// The mappings of an index.
-    pub fn index_at(&self, id: ExGuid) -> Option<Mappings<'a>>
+    pub fn index_at(&self, id: ExGuid) -> Option<Mappings<'_>>
         ensures { option_map seen_mappings result ≡ said as_index (listed self.now) id }
     {
         match self.find(id) {
@@ -122,7 +138,7 @@ impl<'a> Catalog<'a> {
     }
 
     /// What a revision manifest says.
-    pub fn revision_at(&self, id: ExGuid) -> Option<Manifest<'a>>
+    pub fn revision_at(&self, id: ExGuid) -> Option<Manifest<'_>>
         ensures { option_map seen_manifest result ≡ said as_revision (listed self.now) id }
     {
         match self.find(id) {

@@ -3,9 +3,11 @@ ghost use Rattle.std.specs.Prelude.{◌≡◌, ◌+◌, ◌<◌, ◌^◌, [], �
 ghost use Rattle.std.specs.List.{list_any};
 ghost use Rattle.doc_model.specs.Finding.{said, firsts, with_new, as_index, as_storage, as_cell, as_group, as_blob};
 ghost use Rattle.doc_model.specs.Reached.{manifest_of, base_of, named_along, enough, named_revisions, name, revision_name, mapping_of, groups_of, blobs_of, blob_of, same_cells, cells_of, current_of, currents_of, storage_name, cell_name, group_name, blob_name, names_below, names};
-ghost use Rattle.plain_core.specs.Cataloging.{listed, seen_mappings, seen_manifest};
+ghost use Rattle.plain_core.specs.Cataloging.{listed};
+ghost use Rattle.plain_core.specs.Sayings.{seen_mappings, seen_manifest};
 
-use crate::catalog::{Catalog, Manifest, Mappings};
+use crate::catalog::Catalog;
+use crate::sayings::{Manifest, Mappings};
 use compact_values::{ExGuid, Ids, NoMemory, Seq};
 use doc_model::{
     CellMap, CellMaps, Content, ManifestMap, Name, Namings, Object, RevisionMap,
@@ -21,7 +23,7 @@ fn mapping_of(maps: &[RevisionMap], revision: ExGuid) -> Option<&RevisionMap>
 
 /// The manifest of a revision that is mapped and there.
 pub fn manifest_of<'a>(
-    catalog: &Catalog<'a>,
+    catalog: &'a Catalog<'_>,
     maps: &[RevisionMap],
     revision: ExGuid,
 ) -> Option<Manifest<'a>>

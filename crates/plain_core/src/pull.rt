@@ -66,7 +66,7 @@ fn named_ids(alloc: Global, added: &[Element], commits: &[Commit]) -> Result<Ids
     if commits.is_empty() {
         return Ok(ids);
     }
-    let catalog = Catalog { added, fresh: &[] };
+    let catalog = Catalog::new(alloc, added)?;
     let all = names(alloc, &catalog, stored_index(commits))?;
     for name in all.as_slice() {
         ids.push(name.id)?;
