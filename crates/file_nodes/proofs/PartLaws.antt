@@ -9,9 +9,10 @@ use Rattle.sha2.specs.Sha256.{sha256}
 use Rattle.compact_values.specs.declared.guid.Guid.{Guid}
 use Rattle.compact_values.specs.declared.ids.ExGuid.{ExGuid}
 use Rattle.doc_model.specs.declared.element.Object.{Object}
+use Rattle.doc_model.specs.Nodes.{node_bytes}
 use Rattle.file_nodes.specs.Pieces.{pieces}
 use Rattle.file_nodes.specs.Chunks.{id_of}
-use Rattle.file_nodes.specs.Chunking.{Part, Levels, inline, leaf, node, node_bytes, numbered, objects_of, ids_of, joined_files, levels_within, leaves, levels, file_objects}
+use Rattle.file_nodes.specs.Chunking.{Part, Levels, inline, leaf, node, numbered, objects_of, ids_of, joined_files, levels_within, leaves, levels, file_objects}
 use Rattle.file_nodes.proofs.PieceLaws.{pieces-nil, pieces-front, pieces-append, flat_map-pieces, length-pieces}
 
 -- ---- parts with consecutive values
