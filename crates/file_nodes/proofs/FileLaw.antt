@@ -73,7 +73,7 @@ joined_parts n ps =
       arith,
       length-append (joined_files (take n ps)) (joined_files (drop n ps)),
       ap length (flat_map-append (λ (p : Part). p.file) (take n ps) (drop n ps)),
-      ap (λ (l : List Part). length (joined_files l)) (take-append-drop n ps)
+      ap (λ (l : List Part). length (joined_files l)) (take-append-drop n ps),
     )
 
 groups_within : (file_at : ExGuid → Option (List ℕ)) (a n : ℕ) (ps : List Part) → 0 < n → HasFiles file_at ps → length (joined_files ps) < 2 ^ 64
@@ -165,7 +165,7 @@ module _ (added : List Element) where
   found_at guid v before p rest f =
       let all = before ++ p ∷ rest in
       let ids : map (λ o. o.id) (of_parts all) ≡ map (id_of guid) (range_with_len v (length (of_parts all)))
-          = ids-of_parts all ∙ f ∙ ap (λ (n : ℕ). map (id_of guid) (range_with_len v n)) (sym (length-of_parts all)) in
+      = ids-of_parts all ∙ f ∙ ap (λ (n : ℕ). map (id_of guid) (range_with_len v n)) (sym (length-of_parts all)) in
       ap (find_object (of_parts all)) (run-at guid v before p rest f)
       ∙ find-consecutive (λ (o : FileObject). o.id) guid v (v + length before) (length before) (of_parts all) ids refl
       ∙ part-at before p rest
@@ -186,13 +186,13 @@ module _ (bytes : List ℕ) (guid : Guid) (v : ℕ) (short : length bytes ≤ 16
 
   run_of_levels : IsRun guid v (levels bytes guid v).all
   run_of_levels = elim (cases_lt 64 (length (leaves bytes guid v))) [
-        | inl many ↦
-            let next = v + length (leaves bytes guid v) in
-            let nodes = numbered (node 0x1F guid) next (pieces 64 (leaves bytes guid v)) in
-            let run = run-append guid v next (leaves bytes guid v) nodes refl run_of_leaves (run-numbered (node 0x1F guid) guid (λ n g. refl) next (pieces 64 (leaves bytes guid v))) in
-            rw (levels-many bytes guid v many short) run
-        | inr few ↦ rw (levels-few bytes guid v few) run_of_leaves
-      ]
+    | inl many ↦
+        let next = v + length (leaves bytes guid v) in
+        let nodes = numbered (node 0x1F guid) next (pieces 64 (leaves bytes guid v)) in
+        let run = run-append guid v next (leaves bytes guid v) nodes refl run_of_leaves (run-numbered (node 0x1F guid) guid (λ n g. refl) next (pieces 64 (leaves bytes guid v))) in
+        rw (levels-many bytes guid v many short) run
+    | inr few ↦ rw (levels-few bytes guid v few) run_of_leaves
+  ]
 
   fits_leaves : length (joined_files (leaves bytes guid v)) < 2 ^ 64
   fits_leaves = omega (arith, ap length (joined_files-leaves bytes guid v))
@@ -200,19 +200,19 @@ module _ (bytes : List ℕ) (guid : Guid) (v : ℕ) (short : length bytes ≤ 16
   -- where the objects of all parts are found, those of the top level have their files
   top_have : (objects : List FileObject) (added : List Element) → AreFound objects added (levels bytes guid v).all → HasFiles (file_below objects 7) (levels bytes guid v).top
   top_have objects added h = elim (cases_lt 64 (length (leaves bytes guid v))) [
-        | inl many ↦
-            let next = v + length (leaves bytes guid v) in
-            let groups = pieces 64 (leaves bytes guid v) in
-            let nodes = numbered (node 0x1F guid) next groups in
-            let all : AreFound objects added (leaves bytes guid v ++ nodes) = rw (levels-many bytes guid v many short) at h in
-            let halves = each-split (λ (p : Part). find_object objects p.object.id ≡ Some (as_file_object added p.object)) (leaves bytes guid v) nodes all in
-            let below = leaves_have objects added 5 guid v (pieces 65536 bytes) halves.0 in
-            let fine = groups_within (file_below objects 6) (length (leaves bytes guid v)) 64 (leaves bytes guid v) (omega arith) below fits_leaves in
-            rw (levels-many bytes guid v many short) (nodes_have objects added 6 guid next groups halves.1 fine)
-        | inr few ↦
-            let all : AreFound objects added (leaves bytes guid v) = rw (levels-few bytes guid v few) at h in
-            rw (levels-few bytes guid v few) (leaves_have objects added 6 guid v (pieces 65536 bytes) all)
-      ]
+    | inl many ↦
+        let next = v + length (leaves bytes guid v) in
+        let groups = pieces 64 (leaves bytes guid v) in
+        let nodes = numbered (node 0x1F guid) next groups in
+        let all : AreFound objects added (leaves bytes guid v ++ nodes) = rw (levels-many bytes guid v many short) at h in
+        let halves = each-split (λ (p : Part). find_object objects p.object.id ≡ Some (as_file_object added p.object)) (leaves bytes guid v) nodes all in
+        let below = leaves_have objects added 5 guid v (pieces 65536 bytes) halves.0 in
+        let fine = groups_within (file_below objects 6) (length (leaves bytes guid v)) 64 (leaves bytes guid v) (omega arith) below fits_leaves in
+        rw (levels-many bytes guid v many short) (nodes_have objects added 6 guid next groups halves.1 fine)
+    | inr few ↦
+        let all : AreFound objects added (leaves bytes guid v) = rw (levels-few bytes guid v few) at h in
+        rw (levels-few bytes guid v few) (leaves_have objects added 6 guid v (pieces 65536 bytes) all)
+  ]
 
 -- the file of the root
 pub root_file-file_objects : (bytes : List ℕ) (guid : Guid) (v : ℕ) (added : List Element) → length bytes ≤ 16777216

@@ -204,7 +204,7 @@ module _ (bytes : List ℕ) (guid : Guid) (v : ℕ) where
               length-append (objects_of (leaves bytes guid v)) (objects_of nodes),
               length-map (leaves bytes guid v) (λ (p : Part). p.object),
               length-map nodes (λ (p : Part). p.object),
-              length-nodes 0x1F guid v (v + div_ceil (length bytes) 65536) bytes
+              length-nodes 0x1F guid v (v + div_ceil (length bytes) 65536) bytes,
             )
         | inr few ↦ omega (arith, ap length (all-few few), length-map (leaves bytes guid v) (λ (p : Part). p.object))
       ]

@@ -57,9 +57,9 @@ levels_within zero guid value level = record { all = level; top = level }
 levels_within (suc count) guid value level =
     if nat_le (length level) 64 then record { all = level; top = level }
     else
-      let next = value + length level in
-      let above = levels_within count guid next (numbered (node 0x1F guid) next (pieces 64 level)) in
-      record { all = level ++ above.all; top = above.top }
+    let next = value + length level in
+    let above = levels_within count guid next (numbered (node 0x1F guid) next (pieces 64 level)) in
+    record { all = level ++ above.all; top = above.top }
 
 -- the leaves of a file: its bytes in pieces of 65,536, and none of an empty file
 abbrev pub leaves : List ℕ → Guid → ℕ → List Part

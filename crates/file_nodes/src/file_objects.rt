@@ -212,12 +212,7 @@ fn push_levels(
 }
 
 /// The objects of a file, with values from `first` on: the root node, the leaves in order, then the intermediate nodes.
-pub fn file_objects(
-    alloc: Global,
-    file: &[u8],
-    guid: Guid,
-    first: u32,
-) -> Result<Objects, NoMemory>
+pub fn file_objects(alloc: Global, file: &[u8], guid: Guid, first: u32) -> Result<Objects, NoMemory>
     requires short { length file.now ≤ 16777216 }
     requires room { first ≤ 4000000006 }
     ensures objects { IfOk result (λ objects. objects ≡ file_objects file.now guid first) }
