@@ -1,0 +1,2 @@
+mod WalkFinds
+mod WalkLaws
