@@ -1,2 +1,4 @@
 mod WalkFinds
 mod WalkLaws
+mod ReaderAnswers
+mod Splits

@@ -41,14 +41,14 @@ fn read_parts(
     alloc: Global,
     bytes: &[u8],
     before: &[Tree],
-    package: &Tree,
+    package_object: &Tree,
     behind: &[Tree],
 ) -> Result<CellRequest, WireFault>
-    ensures { GivesRequest result (parts_at bytes.now before.now package.now behind.now) }
+    ensures { GivesRequest result (parts_at bytes.now before.now package_object.now behind.now) }
 {
     let mut subs = Seq::new(alloc);
     read_subs(alloc, bytes, &mut subs, before)?;
-    match read_elements(alloc, bytes, package) {
+    match read_elements(alloc, bytes, package_object) {
         Ok(elements) => {
             read_subs(alloc, bytes, &mut subs, behind)?;
             Ok(CellRequest { subs, elements })
@@ -70,7 +70,7 @@ fn read_form(alloc: Global, bytes: &[u8], tree: &Tree) -> Result<CellRequest, Wi
         return Err(fault(tree));
     }
     match split(tree.children.as_slice()) {
-        Some((before, (package, behind))) => read_parts(alloc, bytes, before, package, behind),
+        Some((before, (package_object, behind))) => read_parts(alloc, bytes, before, package_object, behind),
         None => Err(fault(tree)),
     }
 }
