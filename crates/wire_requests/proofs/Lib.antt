@@ -2,3 +2,5 @@ mod WalkFinds
 mod WalkLaws
 mod ReaderAnswers
 mod Splits
+mod SubLaws
+mod RequestLaws

@@ -1,5 +1,8 @@
 -- Splitting the children of a request at its package.
-use Rattle.std.proofs.Common.{◌≡◌, ◌<◌, ◌+◌, ℕ, Bool, true, false, List, [], ◌∷◌, ◌++◌, length, take, drop, get_or, Option, Some, None, refl, sym, ap, ◌∙◌, append_assoc}
+use Rattle.std.proofs.Common.{◌≡◌, ◌<◌, ◌+◌, ℕ, Bool, true, false, List, [], ◌∷◌, ◌++◌, length, take, drop, get_or, Option, Some, None, refl, sym, ap, subst, ◌∙◌, append_assoc, inl, inr}
+use Rattle.std.specs.Prelude.{filter}
+use Rattle.std.specs.List.{AllByRecursion}
+use Rattle.std.proofs.lemmas.Bool.{cases_Bool}
 use Rattle.std.proofs.lemmas.List.{append-nil, drop_more, drop_all}
 use Rattle.stream_objects.specs.declared.tree.Tree.{Tree}
 use Rattle.stream_objects.specs.Objects.{is_kind}
@@ -35,3 +38,54 @@ pub stops_here : (ts : List Tree) (i : ℕ) (t : Tree) → i < length ts → t �
 stops_here ts i t lt is y =
     let there : drop i ts ≡ t ∷ drop (i + 1) ts = drop_more ts i t lt ∙ ap (λ (u : Tree). u ∷ drop (i + 1) ts) (sym is) in
     ap (λ (l : List Tree). fronted (take i ts) (split l)) there ∙ ap (fronted (take i ts)) (split_here t (drop (i + 1) ts) y) ∙ ap (λ (l : List Tree). Some (l, (t, drop (i + 1) ts))) (append-nil (take i ts))
+
+-- ---- the only package among the objects
+
+pub record Parted (ts : List Tree) (c : Tree) : Type 0 where
+  pub before : List Tree
+  pub behind : List Tree
+  pub is : split ts ≡ Some (before, (c, behind))
+  pub all_are : ts ≡ before ++ (c ∷ behind)
+  pub here : is_kind 0x15 c ≡ true
+  pub none_before : AllByRecursion (λ t. is_kind 0x15 t ≡ false) before
+  pub none_behind : AllByRecursion (λ t. is_kind 0x15 t ≡ false) behind
+
+none_in : (ts : List Tree) → filter (is_kind 0x15) ts ≡ [] → AllByRecursion (λ t. is_kind 0x15 t ≡ false) ts
+none_in [] e = tt
+none_in (t ∷ ts) e =
+    elim (cases_Bool (is_kind 0x15 t)) [
+      | inl y ↦ let first : filter (is_kind 0x15) (t ∷ ts) ≡ t ∷ filter (is_kind 0x15) ts = rw y refl in absurd cc
+      | inr n ↦ let first : filter (is_kind 0x15) (t ∷ ts) ≡ filter (is_kind 0x15) ts = rw n refl in (n, none_in ts (sym first ∙ e))
+    ]
+
+pub parted : (ts : List Tree) (c : Tree) → filter (is_kind 0x15) ts ≡ c ∷ [] → Parted ts c
+parted [] c e = absurd cc
+parted (t ∷ ts) c e =
+    elim (cases_Bool (is_kind 0x15 t)) [
+      | inl y ↦
+          let first : filter (is_kind 0x15) (t ∷ ts) ≡ t ∷ filter (is_kind 0x15) ts = rw y refl in
+          let both : t ∷ filter (is_kind 0x15) ts ≡ c ∷ [] = sym first ∙ e in
+          let same : t ≡ c = cc in
+          let none : filter (is_kind 0x15) ts ≡ [] = cc in
+          record {
+            before = [];
+            behind = ts;
+            is = split_here t ts y ∙ ap (λ (u : Tree). Some ([], (u, ts))) same;
+            all_are = ap (λ (u : Tree). u ∷ ts) same;
+            here = subst (λ (u : Tree). is_kind 0x15 u ≡ true) same y;
+            none_before = tt;
+            none_behind = none_in ts none;
+          }
+      | inr n ↦
+          let first : filter (is_kind 0x15) (t ∷ ts) ≡ filter (is_kind 0x15) ts = rw n refl in
+          let p = parted ts c (sym first ∙ e) in
+          record {
+            before = t ∷ p.before;
+            behind = p.behind;
+            is = split_other t ts n ∙ ap (behind_first t) p.is;
+            all_are = ap (λ (l : List Tree). t ∷ l) p.all_are;
+            here = p.here;
+            none_before = (n, p.none_before);
+            none_behind = p.none_behind;
+          }
+    ]
