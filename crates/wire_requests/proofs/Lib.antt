@@ -4,3 +4,4 @@ mod ReaderAnswers
 mod Splits
 mod SubLaws
 mod RequestLaws
+mod OneAnswer

@@ -1,5 +1,5 @@
 -- What the readers of elements and of knowledge answer is what reading gives.
-use Rattle.std.proofs.Common.{◌≡◌, ◌<◌, ◌≤◌, ℕ, List, length, Result, Ok, Err, ap}
+use Rattle.std.proofs.Common.{◌≡◌, ℕ, List, [], Result, Ok, Err, ap, refl}
 use Rattle.compact_values.proofs.LittleEndian.{IsBytes}
 use Rattle.stream_objects.specs.declared.tree.Tree.{Tree}
 use Rattle.stream_objects.specs.Parts.{IsFirstBroken}
@@ -10,7 +10,6 @@ use Rattle.doc_model.specs.ElementParts as elements
 use Rattle.doc_model.specs.KnowledgeParts as knowledges
 use Rattle.doc_model.specs.declared.element.Element.{Element}
 use Rattle.doc_model.specs.declared.knowledge.Knowledge.{Knowledge}
-use Rattle.doc_model.specs.declared.knowledge.Range.{Range}
 use Rattle.data_elements.specs.Answers.{IsPackageAnswer, IsKnowledgeAnswer}
 use Rattle.data_elements.specs.KnowledgeReading.{knowledge_at}
 use Rattle.data_elements.specs.Reading.{package_at}
@@ -18,7 +17,9 @@ use Rattle.data_elements.specs.declared.fault.ElementFault.{ElementFault}
 use Rattle.data_elements.specs.declared.fault.ElementFault.TheVariants as faults
 use Rattle.data_elements.proofs.ElementLaws.{judges_package, again_package}
 use Rattle.data_elements.proofs.KnowledgeLaws.{judges_knowledge, again_knowledge}
-use Rattle.wire_requests.specs.RequestReading.{knowledge_of}
+use Rattle.stream_objects.specs.Gathering.{gather}
+use Rattle.doc_model.specs.declared.request.WireSub.{WireSub}
+use Rattle.wire_requests.specs.RequestReading.{knowledge_of, child_at, parts_at}
 use Rattle.wire_requests.specs.RequestAnswers.{wire_fault, Gives, GivesElements}
 
 -- where the first part isn't in its form, reading stops there
@@ -52,3 +53,8 @@ module _ (input : List ℕ) (fits : IsBytes input) (t : Tree) where
   no_elements (faults.SchemaFault place) a = package_stops place a
   no_elements faults.TooMany a = (a.0, again_package input fits t a.0 a.1, a.2)
   no_elements faults.NoMemory a = tt
+
+-- the request of the parts
+pub parts_are : (input : List ℕ) (before : List Tree) (c : Tree) (behind : List Tree) (subs all : List WireSub) (es : List Element) → gather (child_at input) [] before ≡ Ok subs → package_at input c ≡ Ok es
+    → gather (child_at input) subs behind ≡ Ok all → parts_at input before c behind ≡ Ok (record { subs = all; elements = es })
+parts_are input before c behind subs all es e f g = rw (e, f, g) refl

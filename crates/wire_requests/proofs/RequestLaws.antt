@@ -1,5 +1,5 @@
 -- What is read of a request is what its objects say, or where the first of them that isn't in its form starts.
-use Rattle.std.proofs.Common.{◌≡◌, ℕ, suc, ◌+◌, ◌<◌, ◌≤◌, Bool, true, false, List, [], ◌∷◌, ◌++◌, length, map, Option, Some, None, Result, Ok, Err, inl, inr, refl, sym, ap, subst, ◌∙◌, append_assoc, eq-eqb, arith}
+use Rattle.std.proofs.Common.{◌≡◌, ℕ, suc, ◌+◌, ◌≤◌, Bool, true, false, List, [], ◌∷◌, ◌++◌, length, map, Option, Some, None, Result, Ok, Err, inl, inr, refl, sym, ap, subst, ◌∙◌, append_assoc, eq-eqb, arith}
 use Rattle.std.specs.Prelude.{◌&&◌, ◌==◌, is_some, filter, if◌then◌else◌}
 use Rattle.std.specs.List.{AllByRecursion}
 use Rattle.std.proofs.lemmas.Bool.{cases_Bool}
@@ -9,7 +9,7 @@ use Rattle.std.proofs.lemmas.List.Elements.{filter-append}
 use Rattle.compact_values.proofs.LittleEndian.{IsBytes}
 use Rattle.stream_objects.specs.declared.tree.Tree.{Tree}
 use Rattle.stream_objects.specs.declared.tree.Tree.TheViews.{out-Tree}
-use Rattle.stream_objects.specs.Objects.{One, Each, kind_of, is_kind, start_of, children_of}
+use Rattle.stream_objects.specs.Objects.{Each, kind_of, is_kind, start_of, children_of}
 use Rattle.stream_objects.specs.ObjectFields.{single}
 use Rattle.stream_objects.specs.Parts.{IsFirstBroken}
 use Rattle.stream_objects.specs.Gathering.{and_then, gather}
@@ -18,8 +18,8 @@ use Rattle.stream_objects.proofs.Children.{single_some, single_none}
 use Rattle.stream_objects.proofs.Standing.{filter_join}
 use Rattle.doc_model.specs.ElementParts as elements
 use Rattle.doc_model.specs.Elements.{IsPackage}
-use Rattle.doc_model.specs.Requests.{IsSub, Holds, is_put, puts_in, SaysRequest}
-use Rattle.doc_model.specs.RequestParts.{Part, request, packed, InOwnForm, part_start, sub_row, sub_parts, puts_with, child_parts, request_parts}
+use Rattle.doc_model.specs.Requests.{IsSub, is_put, puts_in, SaysRequest}
+use Rattle.doc_model.specs.RequestParts.{Part, packed, part_start, sub_row, sub_parts, puts_with, child_parts, request_parts}
 use Rattle.doc_model.specs.declared.element.Element.{Element}
 use Rattle.doc_model.specs.declared.request.CellRequest.{CellRequest}
 use Rattle.doc_model.specs.declared.request.WireSub.{WireSub}

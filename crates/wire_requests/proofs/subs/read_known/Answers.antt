@@ -1,5 +1,4 @@
 use Rattle.std.proofs.Common.{arith}
-use Rattle.wire_requests.specs.RequestAnswers.{Gives}
 use Rattle.wire_requests.proofs.ReaderAnswers.{known, not_known}
 use Rattle.wire_requests.proofs.subs.read_known.Goals as goal
 
