@@ -6,6 +6,7 @@
 //! - `walk`: the first object of a type below another
 //! - `front`: the versions and the signature in front of a request
 //! - `fault`: why bytes are no request
+//! - `write`: writing a request, for clients
 #![tactic(auto)]
 
 mod fault;
@@ -14,6 +15,8 @@ mod front;
 mod request;
 mod subs;
 mod walk;
+mod write;
 
 pub use fault::WireFault;
 pub use request::read_cell_request;
+pub use write::write_cell_request;
