@@ -67,7 +67,6 @@ module _ {P : Type 0} (Own : P → Type 0) (start : P → ℕ) where
     parts f = if f then flat_map left (children_of j t) ++ flat_map right (children_of k t) else flat_map right (children_of k t) ++ flat_map left (children_of j t)
 
     go : (f : Bool) (x y : Option Tree) → single (children_of j t) ≡ x → single (children_of k t) ≡ y → Judges Own start Both (p ∷ parts f) (both_with one other make (start_of t) f x y)
-    unfolding Both parts
     go f None y e g = inl (λ o. let h = (back o).0 in single_none (children_of j t) e h.0 h.1, starts)
     go f (Some c) None e g = inl (λ o. let h = (back o).1 in single_none (children_of k t) g h.0 h.1, starts)
     go true (Some c) (Some d) e g =
