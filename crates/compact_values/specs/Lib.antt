@@ -13,3 +13,4 @@ pub mod Placed
 pub mod ItemReading
 pub mod Sequences
 pub mod Taking
+pub mod SameIds
