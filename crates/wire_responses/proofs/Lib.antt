@@ -1,2 +1,4 @@
 pub mod Judging
 pub mod ReplyLaws
+pub mod SubLaws
+pub mod ResponseLaws
