@@ -2,3 +2,4 @@ pub mod Judging
 pub mod ReplyLaws
 pub mod SubLaws
 pub mod ResponseLaws
+pub mod OneAnswer

@@ -213,3 +213,65 @@ module _ (input : List ℕ) (fits : IsBytes input) where
                   (judges_children (out-Tree t).children nothing_read))
               | inr n ↦ rw n.0 (inl (λ own. let some = byte_again t 0 own.1 in let same : b ≡ 0 = cc in n.1 same, refl))
             ]
+
+  -- ---- what is in form is read
+
+  made : List Seen → List NumberedElement → CellResponse
+  made ss ns = record { answers = ss; elements = ns }
+
+  same_made : (ss us : List Seen) (ns vs : List NumberedElement) → ss ≡ us → ns ≡ vs → made ss ns ≡ made us vs
+  same_made ss us ns vs a b = ap (λ (l : List Seen). made l ns) a ∙ ap (λ (l : List NumberedElement). made us l) b
+
+  abbrev AgainChildren : List Tree → Type 0
+  AgainChildren ts = (r : CellResponse) (ss : List Seen) (ns : List NumberedElement) → Each (IsSeen input) (filter (is_kind 0x41) ts) ss → Gathers (IsNumberedPackage input) (filter (is_kind 0x15) ts) ns
+      → children_at input ts r ≡ Ok (made (r.answers ++ ss) (r.elements ++ ns))
+
+  again_answer : (t : Tree) (ts : List Tree) → is_kind 0x41 t ≡ true → AgainChildren ts → (r : CellResponse) (ss : List Seen) (ns : List NumberedElement) → Each (IsSeen input) (t ∷ filter (is_kind 0x41) ts) ss
+      → Gathers (IsNumberedPackage input) (filter (is_kind 0x15) ts) ns → children_at input (t ∷ ts) r ≡ Ok (made (r.answers ++ ss) (r.elements ++ ns))
+  unfolding child_at made
+  again_answer t ts y rest r [] ns g h = absurd g
+  again_answer t ts y rest r (s ∷ ss) ns g h =
+      let read : child_at input r t ≡ Ok (record r { answers = r.answers ++ s ∷ [] }) = rw y (ap (and_answer r) (again_sub input fits t s g.0)) in
+      ap (λ (x : Result CellResponse ℕ). and_then x (children_at input ts)) read ∙ rest (record r { answers = r.answers ++ s ∷ [] }) ss ns g.1 h
+      ∙ ap Ok (same_made ((r.answers ++ s ∷ []) ++ ss) (r.answers ++ s ∷ ss) (r.elements ++ ns) (r.elements ++ ns) (append_assoc r.answers (s ∷ []) ss) refl)
+
+  again_package : (t : Tree) (ts : List Tree) → is_kind 0x41 t ≡ false → is_kind 0x15 t ≡ true → AgainChildren ts → (r : CellResponse) (ss : List Seen) (ns : List NumberedElement)
+      → Each (IsSeen input) (filter (is_kind 0x41) ts) ss → Gathers (IsNumberedPackage input) (t ∷ filter (is_kind 0x15) ts) ns → children_at input (t ∷ ts) r ≡ Ok (made (r.answers ++ ss) (r.elements ++ ns))
+  unfolding child_at made
+  again_package t ts n y rest r ss ns g h =
+      let read : child_at input r t ≡ Ok (record r { elements = r.elements ++ h.0 }) = rw (n, y) (ap (and_elements r) (again_numbered_package input fits t r.elements h.0 h.2)) in
+      ap (λ (x : Result CellResponse ℕ). and_then x (children_at input ts)) read ∙ rest (record r { elements = r.elements ++ h.0 }) ss h.1 g h.3
+      ∙ ap Ok (same_made (r.answers ++ ss) (r.answers ++ ss) ((r.elements ++ h.0) ++ h.1) (r.elements ++ ns) refl (append_assoc r.elements h.0 h.1 ∙ ap (λ (l : List NumberedElement). r.elements ++ l) (sym h.4)))
+
+  again_other : (t : Tree) (ts : List Tree) → is_kind 0x41 t ≡ false → is_kind 0x15 t ≡ false → AgainChildren ts → AgainChildren (t ∷ ts)
+  unfolding child_at
+  again_other t ts n m rest r ss ns g h =
+      let read : child_at input r t ≡ Ok r = rw (n, m) refl in
+      ap (λ (x : Result CellResponse ℕ). and_then x (children_at input ts)) read
+      ∙ rest r ss ns (subst (λ (l : List Tree). Each (IsSeen input) l ss) (filter_no 0x41 t ts n) g) (subst (λ (l : List Tree). Gathers (IsNumberedPackage input) l ns) (filter_no 0x15 t ts m) h)
+
+  again_children : (ts : List Tree) → AgainChildren ts
+  unfolding made
+  again_children [] r [] ns g h = ap Ok (same_made r.answers (r.answers ++ []) r.elements (r.elements ++ ns) (sym (append-nil r.answers)) (sym (append-nil r.elements) ∙ ap (λ (l : List NumberedElement). r.elements ++ l) (sym h)))
+  again_children [] r (s ∷ ss) ns g h = absurd g
+  again_children (t ∷ ts) r ss ns g h =
+      elim (eqb_tells (kind_of t) 0x41) [
+        | inl y ↦
+            again_answer t ts y.0 (again_children ts) r ss ns (subst (λ (l : List Tree). Each (IsSeen input) l ss) (filter_yes 0x41 t ts y.0) g)
+            (subst (λ (l : List Tree). Gathers (IsNumberedPackage input) l ns) (filter_no 0x15 t ts (not_both t y.1)) h)
+        | inr n ↦
+            elim (eqb_tells (kind_of t) 0x15) [
+              | inl y ↦
+                  again_package t ts n.0 y.0 (again_children ts) r ss ns (subst (λ (l : List Tree). Each (IsSeen input) l ss) (filter_no 0x41 t ts n.0) g)
+                  (subst (λ (l : List Tree). Gathers (IsNumberedPackage input) l ns) (filter_yes 0x15 t ts y.0) h)
+              | inr m ↦ again_other t ts n.0 m.0 (again_children ts) r ss ns g h
+            ]
+      ]
+
+  pub again_response : (t : Tree) (r : CellResponse) → IsCellResponse input t r → response_at input t ≡ Ok r
+  unfolding response_at made
+  again_response t r h =
+      let p = h.elements in
+      let packages : Gathers (IsNumberedPackage input) (children_of 0x15 t) r.elements =
+      subst (λ (l : List Tree). Gathers (IsNumberedPackage input) l r.elements) (sym p.1) (r.elements, [], p.2, refl, sym (append-nil r.elements)) in
+      rw (eq-eqb (kind_of t) 0x62 h.kind, byte_again t 0 h.fields, ap single p.1) (again_children (out-Tree t).children nothing_read r.answers r.elements h.answers packages)
