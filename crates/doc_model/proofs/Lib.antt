@@ -1,2 +1,4 @@
 pub mod SizeLemmas
 pub mod NodeLaws
+pub mod Unmoved
+pub mod OnStored
