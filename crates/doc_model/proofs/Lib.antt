@@ -2,3 +2,8 @@ pub mod SizeLemmas
 pub mod NodeLaws
 pub mod Unmoved
 pub mod OnStored
+pub mod EachItem
+pub mod Firsts
+pub mod Agree
+pub mod Added
+pub mod Download

@@ -2,8 +2,8 @@
 use Rattle.std.proofs.Common.{◌≡◌, ◌≢◌, ◌⊎◌, ℕ, zero, suc, ◌+◌, ◌<◌, refl, sym, ap, subst, Bool, true, false, not, ◌&&◌, ◌||◌, cond, List, [], ◌∷◌, length, Option, Some, None, ◌==◌, inl, inr, ⊎_elim, ◌∙◌, ◌++◌, arith, map}
 use Rattle.std.proofs.lemmas.Bool.Decides.{nat_tests}
 use Rattle.std.proofs.lemmas.Bool.{false≢true}
-use Rattle.std.proofs.lemmas.Map.Keys.{IsDistinct-head, IsDistinct-tail}
-use Rattle.std.specs.List.{IsDistinct, Contains, AllByRecursion}
+use Rattle.std.specs.List.{IsDistinct, AllByRecursion, slice_get}
+use Rattle.compact_values.specs.declared.ids.ExGuid.{ExGuid}
 use Rattle.compact_values.specs.SameIds.{same_id}
 use Rattle.compact_values.proofs.SameIds.{id-same, same-id}
 use Rattle.doc_model.specs.declared.call.Put.{Put}
@@ -67,3 +67,30 @@ pub on-stored : CommitsOnStored
 on-stored doc m user p l ne =
     let none = none-holds (commit_reasons doc m p (sent_to doc p) (added_by doc p)) (put-accepted doc m user p ne) in
     expects doc p l (not-false (is_expected doc.commits p) none.1.1.1.0)
+
+some-injective : {x y : Commit} → Some x ≡ Some y → x ≡ y
+some-injective e = cc
+
+none≢some : {x : Commit} → None ≡ Some x → ⊥
+none≢some e = cc
+
+-- what stands in a list whose keys differ from one isn't of that key
+not-after : (key : ExGuid) (cs : List Commit) (j : ℕ) (b : Commit) → AllByRecursion (λ y. same_id key y ≡ false) (map (λ c. c.index) cs) → slice_get cs j ≡ Some b → key ≡ b.index → ⊥
+not-after key [] j b d q e = absurd (none≢some q)
+not-after key (c ∷ cs) zero b d q e =
+    let s : c ≡ b = some-injective q in
+    false≢true (sym d.0 ∙ ap (λ (x : Commit). same_id key x.index) s ∙ ap (same_id key) (sym e) ∙ same-id key)
+not-after key (c ∷ cs) (suc j) b d q e = not-after key cs j b d.1 q e
+
+-- commits whose indexes differ stand at one place each
+one-place : (cs : List Commit) (i j : ℕ) (a b : Commit) → IsDistinct same_id (map (λ c. c.index) cs) → slice_get cs i ≡ Some a → slice_get cs j ≡ Some b
+    → a.index ≡ b.index → i ≡ j
+unfolding IsDistinct
+one-place [] i j a b d p q e = absurd (none≢some p)
+one-place (c ∷ cs) zero zero a b d p q e = refl
+one-place (c ∷ cs) zero (suc j) a b d p q e = absurd (not-after c.index cs j b d.0 q (ap (λ (x : Commit). x.index) (some-injective p) ∙ e))
+one-place (c ∷ cs) (suc i) zero a b d p q e = absurd (not-after c.index cs i a d.0 p (ap (λ (x : Commit). x.index) (some-injective q) ∙ sym e))
+one-place (c ∷ cs) (suc i) (suc j) a b d p q e = ap (λ n. suc n) (one-place cs i j a b d.1 p q e)
+
+pub one-commit : OneCommitOfIndex
+one-commit doc i j a b sound p q e = one-place doc.commits i j a b sound.distinct_commits p q e

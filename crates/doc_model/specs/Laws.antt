@@ -1,14 +1,19 @@
 -- What holds of every document and every call.
-use Rattle.std.specs.Prelude.{◌≡◌, ◌≢◌, ◌⊎◌, ℕ, Bool, true, false, List, []}
+use Rattle.std.specs.Prelude.{◌≡◌, ◌≢◌, ◌⊎◌, ℕ, Bool, true, false, IsTrue, List, [], ◌++◌, map, Some}
 use Rattle.doc_model.specs.declared.call.Call.{Call}
 use Rattle.doc_model.specs.declared.call.Put.{Put}
 use Rattle.doc_model.specs.declared.doc.Doc.{Doc}
 use Rattle.doc_model.specs.declared.doc.Commit.{Commit}
 use Rattle.compact_values.specs.declared.ids.ExGuid.{ExGuid}
 use Rattle.compact_values.specs.declared.ids.ExGuid.TheVariants.{Null}
-use Rattle.std.specs.List.{Contains}
+use Rattle.std.specs.List.{list_all, slice_get}
+use Rattle.doc_model.specs.declared.element.Element.{Element}
+use Rattle.doc_model.specs.Files.{file}
+use Rattle.doc_model.specs.Reached.{names}
 use Rattle.doc_model.specs.Apply.{apply}
-use Rattle.doc_model.specs.Pulls.{stored_index}
+use Rattle.doc_model.specs.Pulls.{stored_index, pull}
+use Rattle.doc_model.specs.declared.reply.Reply.{Reply}
+use Rattle.doc_model.specs.declared.reply.Reply.TheVariants.{Pulled}
 use Rattle.doc_model.specs.Puts.{put}
 use Rattle.doc_model.specs.Sound.{Sound}
 
@@ -29,4 +34,33 @@ CommitsOnStored =
 -- Of a document that is kept, commits with one index are one commit.
 abbrev pub OneCommitOfIndex : Type 0
 OneCommitOfIndex =
-    (doc : Doc) (a b : Commit) → Sound doc → Contains doc.commits a → Contains doc.commits b → a.index ≡ b.index → a ≡ b
+    (doc : Doc) (i j : ℕ) (a b : Commit) → Sound doc → slice_get doc.commits i ≡ Some a → slice_get doc.commits j ≡ Some b → a.index ≡ b.index → i ≡ j
+
+-- Where all that an index names is there, elements that are added later change nothing of it.
+abbrev pub AllNamed : List Element → ExGuid → Type 0
+AllNamed added index = IsTrue (list_all (λ n. n.found) (names added index))
+
+abbrev pub NamesStay : Type 0
+NamesStay = (added more : List Element) (index : ExGuid) → AllNamed added index → names (added ++ more) index ≡ names added index
+
+abbrev pub FileStays : Type 0
+FileStays = (added more : List Element) (index : ExGuid) → AllNamed added index → file (added ++ more) index ≡ file added index
+
+-- the index and the elements that a pull answers
+abbrev pub pulled_index : Reply → ExGuid
+pulled_index (Pulled guid index elements knowledge) = index
+pulled_index _ = Null
+
+abbrev pub pulled_elements : Reply → List Element
+pulled_elements (Pulled guid index elements knowledge) = map (λ e. e.element) elements
+pulled_elements _ = []
+
+-- What a client that knows nothing is sent has, alone, the file that the document has at the index which is answered.
+abbrev pub DownloadsTheFile : Type 0
+DownloadsTheFile =
+    (doc : Doc) → doc.commits ≢ []
+    → file (pulled_elements (pull doc [])) (pulled_index (pull doc [])) ≡ file doc.added (pulled_index (pull doc []))
+
+-- Without a commit the answered index is null, and no element is sent.
+abbrev pub DownloadsNothing : Type 0
+DownloadsNothing = (doc : Doc) → doc.commits ≡ [] → (pulled_index (pull doc []) ≡ Null) × (pulled_elements (pull doc []) ≡ [])
