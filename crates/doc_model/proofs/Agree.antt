@@ -1,5 +1,5 @@
 -- What an index names, its chains and its file depend on what stands under the named ids alone.
-use Rattle.std.proofs.Common.{◌≡◌, ℕ, zero, suc, ◌+◌, ◌≤◌, ◌<◌, refl, sym, ◌∙◌, ap, subst, Bool, true, false, List, [], ◌∷◌, ◌++◌, map, flat_map, find, take, length, Option, Some, None, option_map, option_and_then, unwrap_or, arith}
+use Rattle.std.proofs.Common.{◌≡◌, ℕ, zero, suc, ◌+◌, ◌≤◌, ◌<◌, refl, sym, ◌∙◌, ap, subst, Bool, true, false, ◌&&◌, cond, List, [], ◌∷◌, ◌++◌, map, flat_map, find, take, length, Option, Some, None, option_map, option_and_then, unwrap_or, arith}
 use Rattle.std.specs.Prelude.{is_some}
 use Rattle.std.specs.List.{AllByRecursion as Each, list_all}
 use Rattle.compact_values.specs.declared.ids.ExGuid.{ExGuid}
@@ -20,7 +20,7 @@ use Rattle.doc_model.specs.declared.element.Content.TheVariants.{Inline, Apart}
 use Rattle.doc_model.specs.FileObjects.{FileObject, root_file}
 use Rattle.doc_model.specs.Files.{current_revision, root_chain, objects_of, own_bytes, as_file_object, file_objects, root_object, file_of_chain, file, group_objects, revision_objects}
 use Rattle.doc_model.specs.Finding.{first, find_element, said, firsts, Manifest, Mappings, as_index, as_storage, as_cell, as_revision, as_group, as_blob}
-use Rattle.doc_model.specs.Reached.{name, mapping_of, manifest_of, base_of, named_along, named_revisions, enough, longest, chain, chains_end, revision_name, cell_name, storage_name, group_name, blob_name, groups_of, groups_by, blobs_of, blob_of, cells_of, same_cells, current_of, currents_of, names, names_below}
+use Rattle.doc_model.specs.Reached.{name, mapping_of, manifest_of, base_of, named_along, named_revisions, reached, reached_from, enough, longest, chain, chains_end, revision_name, cell_name, storage_name, group_name, blob_name, groups_of, groups_by, blobs_of, blob_of, cells_of, same_cells, current_of, currents_of, names, names_below}
 use Rattle.doc_model.proofs.EachItem.{each-front, each-back, each-map, each-mapped, each-flat, each-flat-map, each-both, each-as, map-same, flat-same, all-same}
 use Rattle.doc_model.proofs.Firsts.{first-kept}
 
@@ -349,3 +349,16 @@ module _ (a b : List Element) where
 
   pub file-same : (index : ExGuid) → Each (λ n. Same n.id) (names a index) → file b index ≡ file a index
   file-same index h = ap (λ o. file_under b o) (said-same as_index index h.0) ∙ under-same (said as_index a index) h.1
+
+  -- and so is what is reached, where the elements with the named ids are the same
+  ends-under : (o : Option Mappings) → AllSame o → (t : Bool) (r r' : List Element) → r' ≡ r
+      → option_and_then (λ maps. cond (t && chains_end b maps) (Some r') None) o ≡ option_and_then (λ maps. cond (t && chains_end a maps) (Some r) None) o
+  ends-under None s t r r' e = refl
+  ends-under (Some maps) s t r r' e =
+      ap (λ c. cond (t && c) (Some r') None) (chains_same maps s) ∙ ap (λ (x : List Element). cond (t && chains_end a maps) (Some x) None) e
+
+  pub reached-same : (index : ExGuid) → Each (λ n. Same n.id) (names a index) → reached_from b index ≡ reached_from a index → reached b index ≡ reached a index
+  reached-same index h e =
+      ap (option_and_then (λ maps. cond (list_all (λ n. n.found) (names b index) && chains_end b maps) (Some (reached_from b index)) None)) (said-same as_index index h.0)
+      ∙ ap (λ (ns : List Name). option_and_then (λ maps. cond (list_all (λ n. n.found) ns && chains_end b maps) (Some (reached_from b index)) None) (said as_index a index)) (names-same index h)
+      ∙ ends-under (said as_index a index) h.1 (list_all (λ n. n.found) (names a index)) (reached_from a index) (reached_from b index) e

@@ -7,3 +7,8 @@ pub mod Firsts
 pub mod Agree
 pub mod Added
 pub mod Download
+pub mod Distinct
+pub mod SoundElements
+pub mod KeepsSound
+pub mod SoundParts
+pub mod SoundCommits

@@ -30,6 +30,10 @@ pub not-false : (b : Bool) → not b ≡ false → b ≡ true
 not-false true h = refl
 not-false false h = cc
 
+pub not-true : (b : Bool) → not b ≡ true → b ≡ false
+not-true false h = refl
+not-true true h = cc
+
 pub and-both : (a b : Bool) → (a && b) ≡ true → (a ≡ true) × (b ≡ true)
 and-both true b h = (refl, h)
 and-both false b h = cc

@@ -4,18 +4,19 @@ use Rattle.doc_model.specs.declared.call.Call.{Call}
 use Rattle.doc_model.specs.declared.call.Put.{Put}
 use Rattle.doc_model.specs.declared.doc.Doc.{Doc}
 use Rattle.doc_model.specs.declared.doc.Commit.{Commit}
+use Rattle.compact_values.specs.declared.guid.Guid.{Guid}
 use Rattle.compact_values.specs.declared.ids.ExGuid.{ExGuid}
 use Rattle.compact_values.specs.declared.ids.ExGuid.TheVariants.{Null}
 use Rattle.std.specs.List.{list_all, slice_get}
 use Rattle.doc_model.specs.declared.element.Element.{Element}
 use Rattle.doc_model.specs.Files.{file}
 use Rattle.doc_model.specs.Reached.{names}
-use Rattle.doc_model.specs.Apply.{apply}
+use Rattle.doc_model.specs.Apply.{apply, empty_doc}
 use Rattle.doc_model.specs.Pulls.{stored_index, pull}
 use Rattle.doc_model.specs.declared.reply.Reply.{Reply}
 use Rattle.doc_model.specs.declared.reply.Reply.TheVariants.{Pulled}
 use Rattle.doc_model.specs.Puts.{put}
-use Rattle.doc_model.specs.Sound.{Sound}
+use Rattle.doc_model.specs.Sound.{Sound, Valid}
 
 -- A call that doesn't move leaves the document equal.
 abbrev pub UnmovedIsEqual : Type 0
@@ -64,3 +65,10 @@ DownloadsTheFile =
 -- Without a commit the answered index is null, and no element is sent.
 abbrev pub DownloadsNothing : Type 0
 DownloadsNothing = (doc : Doc) → doc.commits ≡ [] → (pulled_index (pull doc []) ≡ Null) × (pulled_elements (pull doc []) ≡ [])
+
+-- Every call that may be made leaves a sound document sound, and a document without anything is sound.
+abbrev pub KeepsSound : Type 0
+KeepsSound = (doc : Doc) (call : Call) → Sound doc → Valid call → Sound (apply doc call).doc
+
+abbrev pub EmptyIsSound : Type 0
+EmptyIsSound = (guid : Guid) → Sound (empty_doc guid)

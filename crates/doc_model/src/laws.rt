@@ -1,5 +1,5 @@
 //! Laws of the definitions: each function's contract is one, and it does nothing.
-ghost use Rattle.doc_model.specs.Laws.{UnmovedIsEqual, CommitsOnStored, OneCommitOfIndex, NamesStay, FileStays, DownloadsTheFile, DownloadsNothing};
+ghost use Rattle.doc_model.specs.Laws.{UnmovedIsEqual, CommitsOnStored, OneCommitOfIndex, NamesStay, FileStays, DownloadsTheFile, DownloadsNothing, KeepsSound, EmptyIsSound};
 
 /// A call that doesn't move leaves the document equal.
 pub fn unmoved_leaves_the_document()
@@ -23,4 +23,10 @@ pub fn later_elements_change_nothing()
 pub fn downloads_the_file()
     ensures file { DownloadsTheFile }
     ensures nothing { DownloadsNothing }
+{}
+
+/// Every call that may be made leaves a sound document sound, and a document without anything is sound.
+pub fn every_call_keeps_sound()
+    ensures kept { KeepsSound }
+    ensures empty { EmptyIsSound }
 {}
