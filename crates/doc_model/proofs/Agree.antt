@@ -240,20 +240,20 @@ module _ (a b : List Element) where
       below_same : names_below b maps ≡ names_below a maps
       below_same =
           let s : map (storage_name b) (take 1 maps.manifests) ≡ storage = map-same (storage_name b) (storage_name a) (take 1 maps.manifests)
-                  (each-as (λ m. Same m.target) (λ m. storage_name b m ≡ storage_name a m) (take 1 maps.manifests) (λ m t. named_same as_storage m.target t) storage_same) in
+          (each-as (λ m. Same m.target) (λ m. storage_name b m ≡ storage_name a m) (take 1 maps.manifests) (λ m t. named_same as_storage m.target t) storage_same) in
           let c : map (cell_name b) (cells_of maps) ≡ cells = map-same (cell_name b) (cell_name a) (cells_of maps)
-                  (each-as (λ x. Same x.target) (λ x. cell_name b x ≡ cell_name a x) (cells_of maps) (λ x t. named_same as_cell x.target t) targets_same) in
+          (each-as (λ x. Same x.target) (λ x. cell_name b x ≡ cell_name a x) (cells_of maps) (λ x t. named_same as_cell x.target t) targets_same) in
           let r : map (revision_name b maps.revisions) (named_revisions b maps.revisions (currents_of b maps)) ≡ revisions =
-                  ap (map (revision_name b maps.revisions)) rs_same
-                  ∙ map-same (revision_name b maps.revisions) (revision_name a maps.revisions) rs
-                  (each-as (SameRevision maps.revisions) (λ x. revision_name b maps.revisions x ≡ revision_name a maps.revisions x) rs
-                  (λ x t. ap (λ o. name (unwrap_or (option_map (λ m. m.target) (mapping_of maps.revisions x)) x) o) t) revisions_same) in
+          ap (map (revision_name b maps.revisions)) rs_same
+          ∙ map-same (revision_name b maps.revisions) (revision_name a maps.revisions) rs
+          (each-as (SameRevision maps.revisions) (λ x. revision_name b maps.revisions x ≡ revision_name a maps.revisions x) rs
+          (λ x t. ap (λ o. name (unwrap_or (option_map (λ m. m.target) (mapping_of maps.revisions x)) x) o) t) revisions_same) in
           let g : map (group_name b) (flat_map (groups_of b maps.revisions) (named_revisions b maps.revisions (currents_of b maps))) ≡ groups =
-                  ap (map (group_name b)) gs_same
-                  ∙ map-same (group_name b) (group_name a) gs (each-as Same (λ x. group_name b x ≡ group_name a x) gs (λ x t. named_same as_group x t) group_ids_same) in
+          ap (map (group_name b)) gs_same
+          ∙ map-same (group_name b) (group_name a) gs (each-as Same (λ x. group_name b x ≡ group_name a x) gs (λ x t. named_same as_group x t) group_ids_same) in
           let w : map (blob_name b) (flat_map (blobs_of b) (flat_map (groups_of b maps.revisions) (named_revisions b maps.revisions (currents_of b maps)))) ≡ blobs =
-                  ap (map (blob_name b)) (bs_same (flat_map (groups_of b maps.revisions) (named_revisions b maps.revisions (currents_of b maps))) gs_same)
-                  ∙ map-same (blob_name b) (blob_name a) bs (each-as Same (λ x. blob_name b x ≡ blob_name a x) bs (λ x t. named_same as_blob x t) blobs_same) in
+          ap (map (blob_name b)) (bs_same (flat_map (groups_of b maps.revisions) (named_revisions b maps.revisions (currents_of b maps))) gs_same)
+          ∙ map-same (blob_name b) (blob_name a) bs (each-as Same (λ x. blob_name b x ≡ blob_name a x) bs (λ x t. named_same as_blob x t) blobs_same) in
           five s c r g w
         where
           five : {A : Type 0} {s s' c c' r r' g g' w w' : List A} → s ≡ s' → c ≡ c' → r ≡ r' → g ≡ g' → w ≡ w'

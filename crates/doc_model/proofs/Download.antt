@@ -78,6 +78,7 @@ none-lacking guid n (e ∷ es) = none-lacking guid (n + 1) es
 
 pub downloads-nothing : DownloadsNothing
 downloads-nothing doc none =
-    let e : named_ids doc.added doc.commits ≡ [] = ap (λ (cs : List Commit). named_ids doc.added cs) none in
-    (ap (λ (cs : List Commit). stored_index cs) none,
-     ap (λ ids. map (λ x. x.element) (lacking doc.guid [] ids doc.added)) e ∙ ap (map (λ x. x.element)) (none-lacking doc.guid 1 doc.added))
+    let e : named_ids doc.added doc.commits ≡ [] = ap (λ (cs : List Commit). named_ids doc.added cs) none in (
+      ap (λ (cs : List Commit). stored_index cs) none,
+      ap (λ ids. map (λ x. x.element) (lacking doc.guid [] ids doc.added)) e ∙ ap (map (λ x. x.element)) (none-lacking doc.guid 1 doc.added),
+    )

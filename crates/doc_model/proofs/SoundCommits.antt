@@ -69,7 +69,7 @@ reached-from-stays added more index h new =
     ap (λ (ns : List Name). filter (λ (e : Element). is_among (map (λ n. n.id) ns) e.id) (added ++ more)) (names-stay added more index h)
     ∙ filter-append named added more
     ∙ ap (λ (es : List Element). filter named added ++ es)
-      (none-passes named more (each-as (IsNew added) (λ e. named e ≡ false) more (λ e n. new-not-among added e (names added index) n (names-found added index h)) new))
+    (none-passes named more (each-as (IsNew added) (λ e. named e ≡ false) more (λ e n. new-not-among added e (names added index) n (names-found added index h)) new))
     ∙ append-nil (filter named added)
 
 -- a commit that is sound stays so when new elements are added
