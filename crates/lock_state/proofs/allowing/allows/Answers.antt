@@ -1,7 +1,7 @@
 use Rattle.std.proofs.Common.{◌≡◌, ◌∙◌, sym, ap, true, false}
 use Rattle.std.specs.List.{list_any}
 use Rattle.doc_model.specs.Locks.{live, allowed, is_live}
-use Rattle.lock_state.proofs.Allowing.{with-live, without-live}
+use Rattle.lock_state.proofs.AnyLive.{with-live, without-live}
 use Rattle.lock_state.proofs.allowing.allows.Goals as goal
 
 pub returns-then-any_live : goal.returns-then-any_live
