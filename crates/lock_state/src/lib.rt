@@ -16,3 +16,6 @@ pub use allowing::allows;
 pub use coauth_state::LockPlan;
 pub use lock_reply::reply;
 pub use lock_step::step;
+
+#[cfg(test)]
+mod tests;
