@@ -33,3 +33,4 @@ pub mod Apply
 pub mod NumberedElements
 pub mod SeenResponses
 pub mod ResponseParts
+pub mod Laws
