@@ -26,6 +26,7 @@ pub mod Files
 pub mod Pulls
 pub mod Locks
 pub mod LockSteps
+pub mod Locking
 pub mod Sound
 pub mod Puts
 pub mod Apply
