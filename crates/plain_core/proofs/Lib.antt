@@ -1,2 +1,4 @@
 pub mod AlongBases
 pub mod FoundPlaces
+pub mod Growing
+pub mod SentSerials

@@ -3,3 +3,4 @@ pub mod Cataloging
 pub mod Keeping
 pub mod Weighing
 pub mod Sending
+pub mod Uploading
