@@ -1,2 +1,3 @@
 pub mod AlongBases
 pub mod FoundPlaces
+pub mod ChainSteps

@@ -2,15 +2,18 @@
 //!
 //! - `catalog`: the elements, found by their ids, and what they say
 //! - `sayings`: what elements say, borrowed
+//! - `chains`: the chains of bases of an index
 //! - `naming`: what an index names
 //! - `pull`: what a client lacks
 //! - `plain`: the document, its plans and what settles them
 #![tactic(auto)]
 
 mod catalog;
+mod chains;
 mod naming;
 mod plain;
 mod pull;
 mod sayings;
 
+pub use chains::has_chains;
 pub use plain::{Change, PlainCore};
