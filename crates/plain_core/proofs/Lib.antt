@@ -1,3 +1,5 @@
 pub mod AlongBases
 pub mod FoundPlaces
 pub mod ChainSteps
+pub mod FiledAnswers
+pub mod BlobsFound

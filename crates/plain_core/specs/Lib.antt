@@ -1,3 +1,4 @@
 pub mod Sayings
 pub mod Cataloging
 pub mod Keeping
+pub mod Filing

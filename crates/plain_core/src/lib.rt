@@ -5,15 +5,18 @@
 //! - `chains`: the chains of bases of an index
 //! - `naming`: what an index names
 //! - `pull`: what a client lacks
+//! - `file`: the file at an index
 //! - `plain`: the document, its plans and what settles them
 #![tactic(auto)]
 
 mod catalog;
 mod chains;
+mod file;
 mod naming;
 mod plain;
 mod pull;
 mod sayings;
 
 pub use chains::has_chains;
+pub use file::{Filed, file_at};
 pub use plain::{Change, PlainCore};
