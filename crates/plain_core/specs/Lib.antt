@@ -4,3 +4,4 @@ pub mod Keeping
 pub mod Weighing
 pub mod Sending
 pub mod Uploading
+pub mod Filing

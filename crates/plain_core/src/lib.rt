@@ -2,13 +2,17 @@
 //!
 //! - `catalog`: the elements, found by their ids, and what they say
 //! - `sayings`: what elements say, borrowed
+//! - `chains`: the chains of bases of an index
 //! - `naming`: what an index names
 //! - `pull`: what a client lacks
+//! - `file`: the file at an index
 //! - `plain`: the document, its plans and what settles them
 #![tactic(auto)]
 
 mod catalog;
 mod checking;
+mod chains;
+mod file;
 mod naming;
 mod plain;
 mod pull;
@@ -20,6 +24,8 @@ mod weighing;
 
 pub use catalog::Catalog;
 pub use checking::any_invalid;
+pub use chains::has_chains;
+pub use file::{Filed, file_at};
 pub use plain::{Change, PlainCore};
 pub use put::{Sent, entry_refusal, too_much_added, version_refusal};
 pub use serials::{ids_of, serials_in};
