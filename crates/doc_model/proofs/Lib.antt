@@ -13,3 +13,4 @@ pub mod KeepsSound
 pub mod SoundParts
 pub mod SoundCommits
 pub mod Following
+pub mod Rows
