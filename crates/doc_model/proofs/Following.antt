@@ -12,10 +12,10 @@ use Rattle.doc_model.specs.declared.doc.Commit.{Commit}
 use Rattle.doc_model.specs.declared.element.Element.{Element}
 use Rattle.doc_model.specs.declared.reply.Code.{Code}
 use Rattle.doc_model.specs.Apply.{apply, by_kind, replay}
-use Rattle.doc_model.specs.Drawing.{draw, can_draw}
+use Rattle.doc_model.specs.Drawing.{can_draw}
 use Rattle.doc_model.specs.Files.{file}
 use Rattle.doc_model.specs.Laws.{Follows, CallsFollow, HistoriesFollow}
-use Rattle.doc_model.specs.Puts.{put, is_part, part_refusal, commit_refusal, kept, committed, fresh, sent_to}
+use Rattle.doc_model.specs.Puts.{is_part, part_refusal, commit_refusal, kept, committed, fresh, sent_to}
 use Rattle.doc_model.specs.Sound.{IsSoundCommit, Sound, Valid}
 use Rattle.doc_model.specs.Turns.{Turn, unless}
 use Rattle.doc_model.proofs.Added.{file-stays}

@@ -1,12 +1,12 @@
 -- Small examples of the definitions, worked by computing.
-use Rattle.std.proofs.Common.{◌≡◌, ℕ, refl, Bool, true, false, List, [], ◌∷◌, ◌++◌, map, take, Option, Some, None}
+use Rattle.std.proofs.Common.{◌≡◌, ℕ, refl, true, false, List, [], ◌∷◌, ◌++◌, map, take, Some, None}
 use Rattle.compact_values.specs.declared.guid.Guid.{Guid}
 use Rattle.compact_values.specs.declared.ids.ExGuid.{ExGuid}
 use Rattle.compact_values.specs.declared.ids.ExGuid.TheVariants.{Null, Id}
 use Rattle.compact_values.specs.declared.ids.Serial.TheVariants as serial
 use Rattle.compact_values.specs.declared.ids.CellId.{CellId}
 use Rattle.doc_model.specs.declared.element.Element.{Element}
-use Rattle.doc_model.specs.declared.element.Body.TheVariants.{Index, Storage, Cell, Revision, Group, Blob}
+use Rattle.doc_model.specs.declared.element.Body.TheVariants.{Index, Storage, Cell, Revision, Group}
 use Rattle.doc_model.specs.declared.element.Content.TheVariants.{Inline}
 use Rattle.doc_model.specs.declared.call.Put.{Put}
 use Rattle.doc_model.specs.declared.doc.Doc.{Doc}
