@@ -12,7 +12,7 @@ use Rattle.doc_model.specs.declared.doc.Doc.{Doc}
 use Rattle.doc_model.specs.declared.element.Element.{Element}
 use Rattle.doc_model.specs.Finding.{firsts}
 use Rattle.doc_model.specs.Limits.{most_objects}
-use Rattle.doc_model.specs.Puts.{fresh, same_ids, is_new, is_foreign, disagree, is_invalid, has_invalid}
+use Rattle.doc_model.specs.Puts.{fresh, same_ids, is_new, is_foreign, is_invalid, grown, has_invalid}
 use Rattle.doc_model.specs.Sound.{IsDrawn, IsSoundElement}
 use Rattle.doc_model.specs.Weights.{objects_written}
 use Rattle.doc_model.proofs.Distinct.{distinct-filter, distinct-firsts, distinct-more, each-firsts}
@@ -46,9 +46,10 @@ owned doc (Id g v) h = (λ e. not-less doc.drawn v (at (same_guid g doc.guid) (a
 
 pub each-owned : (doc : Doc) (es : List Element) → has_invalid doc.guid doc.drawn doc.added es ≡ false → Each (λ e. IsOwned doc e.id) es
 each-owned doc es h =
-    each-as (λ e. is_invalid doc.guid doc.drawn doc.added es e ≡ false) (λ e. IsOwned doc e.id) es
-    (λ e i. owned doc e.id (or-neither _ _ (or-neither (is_foreign doc.guid doc.drawn e.id || list_any (disagree e) doc.added) _ i).0).0)
-    (none-each (is_invalid doc.guid doc.drawn doc.added es) es h)
+    let all = grown doc.added es in
+    each-as (λ e. is_invalid doc.guid doc.drawn all e ≡ false) (λ e. IsOwned doc e.id) es
+    (λ e i. owned doc e.id (or-neither (is_foreign doc.guid doc.drawn e.id) _ i).0)
+    (none-each (is_invalid doc.guid doc.drawn all) es h)
 
 -- what is new of some elements
 pub each-fresh : (P : Element → Type 0) (added es : List Element) → Each P es → Each P (fresh added es)
