@@ -14,3 +14,6 @@ pub mod SoundParts
 pub mod SoundCommits
 pub mod Following
 pub mod Rows
+pub mod LastCommit
+pub mod UnderLock
+pub mod SameIndex

@@ -1,21 +1,26 @@
 -- What holds of every document and every call.
-use Rattle.std.specs.Prelude.{◌≡◌, ◌≢◌, ◌⊎◌, ℕ, true, false, IsTrue, List, [], ◌++◌, map, Some}
-use Rattle.doc_model.specs.declared.call.Call.{Call}
-use Rattle.doc_model.specs.declared.call.Put.{Put}
-use Rattle.doc_model.specs.declared.doc.Doc.{Doc}
-use Rattle.doc_model.specs.declared.doc.Commit.{Commit}
+use Rattle.std.specs.Prelude.{◌≡◌, ◌≢◌, ◌⊎◌, ℕ, true, false, IsTrue, List, [], ◌++◌, map, Some, is_some}
+use Rattle.std.specs.List.{All, list_all, slice_get}
 use Rattle.compact_values.specs.declared.guid.Guid.{Guid}
 use Rattle.compact_values.specs.declared.ids.ExGuid.{ExGuid}
 use Rattle.compact_values.specs.declared.ids.ExGuid.TheVariants.{Null}
-use Rattle.std.specs.List.{All, list_all, slice_get}
+use Rattle.doc_model.specs.declared.call.Call.{Call}
+use Rattle.doc_model.specs.declared.call.Put as put_call
+use Rattle.doc_model.specs.declared.call.Sub.{Sub}
+use Rattle.doc_model.specs.declared.call.Sub.TheVariants.{Put}
+use Rattle.doc_model.specs.declared.doc.Doc.{Doc}
+use Rattle.doc_model.specs.declared.doc.Commit.{Commit}
 use Rattle.doc_model.specs.declared.element.Element.{Element}
-use Rattle.doc_model.specs.Files.{file}
-use Rattle.doc_model.specs.Reached.{names}
-use Rattle.doc_model.specs.Apply.{apply, empty_doc, replay}
-use Rattle.doc_model.specs.Pulls.{stored_index, pull}
+use Rattle.doc_model.specs.declared.lock.LockRecord.{LockRecord}
+use Rattle.doc_model.specs.declared.lock.LockRecord.TheVariants.{Free, Exclusive, Shared}
 use Rattle.doc_model.specs.declared.reply.Reply.{Reply}
 use Rattle.doc_model.specs.declared.reply.Reply.TheVariants.{Pulled}
+use Rattle.doc_model.specs.Apply.{apply, empty_doc, replay}
+use Rattle.doc_model.specs.Files.{file}
+use Rattle.doc_model.specs.Locks.{live}
+use Rattle.doc_model.specs.Pulls.{stored_index, pull}
 use Rattle.doc_model.specs.Puts.{put}
+use Rattle.doc_model.specs.Reached.{names, reached}
 use Rattle.doc_model.specs.Sound.{Sound, Valid}
 
 -- A call that doesn't move leaves the document equal.
@@ -23,19 +28,41 @@ abbrev pub UnmovedIsEqual : Type 0
 UnmovedIsEqual = (doc : Doc) (call : Call) → (apply doc call).moved ≡ false → (apply doc call).doc ≡ doc
 
 -- the index that a put expects is the stored one, or it takes any for null and nothing was committed
-abbrev pub ExpectsStored : Doc → Put → Type 0
+abbrev pub ExpectsStored : Doc → put_call.Put → Type 0
 ExpectsStored doc p = (p.expected ≡ stored_index doc.commits) ⊎ ((p.imply_null ≡ true) × (doc.commits ≡ []))
 
 -- Where a put that doesn't win as the last writer changes the commits, it expected the stored index.
 abbrev pub CommitsOnStored : Type 0
 CommitsOnStored =
-    (doc : Doc) (moment : ℕ) (user : List ℕ) (p : Put) → p.last_writer_wins ≡ false → (put doc moment user p).doc.commits ≢ doc.commits
+    (doc : Doc) (moment : ℕ) (user : List ℕ) (p : put_call.Put) → p.last_writer_wins ≡ false → (put doc moment user p).doc.commits ≢ doc.commits
     → ExpectsStored doc p
 
 -- Of a document that is kept, commits with one index are one commit.
 abbrev pub OneCommitOfIndex : Type 0
 OneCommitOfIndex =
     (doc : Doc) (i j : ℕ) (a b : Commit) → Sound doc → slice_get doc.commits i ≡ Some a → slice_get doc.commits j ≡ Some b → a.index ≡ b.index → i ≡ j
+
+-- Where the stored index is the same as it was, nothing was committed in between.
+abbrev pub EqualIndexEqualCommits : Type 0
+EqualIndexEqualCommits =
+    (doc : Doc) (calls : List (ℕ × Call)) → Sound doc → All (λ item. Valid item.1) calls
+    → stored_index (replay doc calls).commits ≡ stored_index doc.commits → (replay doc calls).commits ≡ doc.commits
+
+-- a call carries this id
+abbrev pub Carries : Sub → Guid → Type 0
+Carries (Put p) id = p.carried ≡ Some id
+Carries _ id = ⊥
+
+-- the lock lets this call change the commits
+abbrev pub AllowedBy : LockRecord → Sub → Type 0
+AllowedBy Free what = Unit {0}
+AllowedBy (Exclusive id until) what = Carries what id
+AllowedBy (Shared schema members) what = Carries what schema
+
+-- Where the commits change, the lock was free at the call's moment, or the call carried its id.
+abbrev pub CommitsUnderLock : Type 0
+CommitsUnderLock =
+    (doc : Doc) (call : Call) → (apply doc call).doc.commits ≢ doc.commits → AllowedBy (live doc.lock call.moment) call.sub
 
 -- Where all that an index names is there, elements that are added later change nothing of it.
 abbrev pub AllNamed : List Element → ExGuid → Type 0
@@ -61,6 +88,12 @@ abbrev pub DownloadsTheFile : Type 0
 DownloadsTheFile =
     (doc : Doc) → doc.commits ≢ []
     → file (pulled_elements (pull doc [])) (pulled_index (pull doc [])) ≡ file doc.added (pulled_index (pull doc []))
+
+-- It is all that is reached from that index, and the file is there.
+abbrev pub DownloadsWhatIsReached : Type 0
+DownloadsWhatIsReached =
+    (doc : Doc) → Sound doc → doc.commits ≢ []
+    → (reached doc.added (pulled_index (pull doc [])) ≡ Some (pulled_elements (pull doc []))) × IsTrue (is_some (file doc.added (pulled_index (pull doc []))))
 
 -- Without a commit the answered index is null, and no element is sent.
 abbrev pub DownloadsNothing : Type 0
