@@ -1,10 +1,9 @@
 -- The last commit of a document, whose index is the stored one.
-use Rattle.std.proofs.Common.{◌≡◌, ◌≢◌, ℕ, zero, suc, ◌+◌, ◌-◌, ◌<◌, refl, sym, ◌∙◌, ap, subst, false, ◌==◌, List, [], ◌∷◌, ◌++◌, get_or, length, Option, Some, None, option_map, unwrap_or, arith}
+use Rattle.std.proofs.Common.{◌≡◌, ◌≢◌, ℕ, zero, suc, ◌-◌, refl, ap, subst, false, ◌==◌, List, [], ◌∷◌, ◌++◌, get_or, length, Option, Some, option_map, unwrap_or, arith}
 use Rattle.std.proofs.lemmas.Bool.Decides.{nat_tests}
 use Rattle.std.proofs.lemmas.List.{append-nil, length-append}
 use Rattle.std.proofs.lemmas.Option.{slice_get-get_or, slice_get_within, get_or_from_slice_get}
 use Rattle.std.specs.List.{All, slice_get}
-use Rattle.compact_values.specs.declared.ids.ExGuid.{ExGuid}
 use Rattle.compact_values.specs.declared.ids.ExGuid.TheVariants.{Null}
 use Rattle.doc_model.specs.declared.doc.Commit.{Commit}
 use Rattle.doc_model.specs.Pulls.{stored_index}
@@ -14,9 +13,6 @@ some-commits [] h = absurd (h refl)
 some-commits (c ∷ cs) h = grind (arith, nat_tests)
 
 -- where there is a commit there is a last one, at the last place, and its index is the stored one
-abbrev pub IsLast : List Commit → Commit → Type 0
-IsLast cs c = (slice_get cs (length cs - 1) ≡ Some c) × (stored_index cs ≡ c.index)
-
 pub last-commit : (cs : List Commit) → cs ≢ [] → (c : Commit) × (slice_get cs (length cs - 1) ≡ Some c) × (stored_index cs ≡ c.index)
 last-commit [] h = absurd (h refl)
 last-commit (x ∷ xs) h =

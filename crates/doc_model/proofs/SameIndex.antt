@@ -1,5 +1,5 @@
 -- Where the stored index is the same as it was, nothing was committed in between.
-use Rattle.std.proofs.Common.{◌≡◌, ◌≢◌, ℕ, ◌+◌, ◌-◌, refl, sym, ◌∙◌, ap, subst, Bool, true, false, cond, List, [], ◌∷◌, ◌++◌, length, Option, Some, None}
+use Rattle.std.proofs.Common.{◌≡◌, ◌≢◌, ◌-◌, refl, sym, ◌∙◌, ap, Bool, true, false, cond, List, [], ◌∷◌, ◌++◌, length, Some, None}
 use Rattle.std.specs.Prelude.{is_some}
 use Rattle.std.proofs.lemmas.Bool.{false≢true}
 use Rattle.std.proofs.lemmas.List.Elements.{recursion_from_All}
@@ -53,9 +53,9 @@ module _ (doc later : Doc) (s : Sound later) (more : List Commit) (grows : later
       let some_later : later.commits ≢ [] = λ n. let c : (x ∷ xs) ++ more ≡ [] = ap (λ (cs : List Commit). cs ++ more) (sym e) ∙ sym grows ∙ n in cc in
       let after = last-commit later.commits some_later in
       let place : slice_get later.commits (length doc.commits - 1) ≡ Some before.0 =
-          ap (λ (cs : List Commit). slice_get cs (length doc.commits - 1)) grows ∙ slice-front doc.commits more (length doc.commits - 1) before.0 before.1 in
+      ap (λ (cs : List Commit). slice_get cs (length doc.commits - 1)) grows ∙ slice-front doc.commits more (length doc.commits - 1) before.0 before.1 in
       let one : length later.commits - 1 ≡ length doc.commits - 1 =
-          one-commit later (length later.commits - 1) (length doc.commits - 1) after.0 before.0 s after.1 place (sym after.2 ∙ same ∙ before.2) in
+      one-commit later (length later.commits - 1) (length doc.commits - 1) after.0 before.0 s after.1 place (sym after.2 ∙ same ∙ before.2) in
       grows ∙ nothing-more doc.commits more some (ap (λ (cs : List Commit). length cs - 1) (sym grows) ∙ one)
 
   unchanged : later.commits ≡ doc.commits

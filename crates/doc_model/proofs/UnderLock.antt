@@ -1,9 +1,7 @@
 -- A put commits only under the lock that its call carries.
-use Rattle.std.proofs.Common.{◌≡◌, ◌≢◌, ℕ, refl, sym, ◌∙◌, ap, Bool, true, false, not, cond, List, Option, Some, None}
+use Rattle.std.proofs.Common.{◌≡◌, ◌≢◌, ℕ, refl, ap, Bool, true, false, cond, List, Option, Some, None}
 use Rattle.compact_values.specs.declared.guid.Guid.{Guid}
-use Rattle.compact_values.specs.SameIds.{same_guid}
 use Rattle.compact_values.proofs.SameIds.{guid-same}
-use Rattle.doc_model.specs.declared.call.Call.{Call}
 use Rattle.doc_model.specs.declared.call.Put.{Put}
 use Rattle.doc_model.specs.declared.call.Sub.{Sub}
 use Rattle.doc_model.specs.declared.call.Sub.TheVariants as sub
@@ -12,10 +10,10 @@ use Rattle.doc_model.specs.declared.doc.Commit.{Commit}
 use Rattle.doc_model.specs.declared.lock.LockRecord.{LockRecord}
 use Rattle.doc_model.specs.declared.lock.LockRecord.TheVariants.{Free, Exclusive, Shared}
 use Rattle.doc_model.specs.Apply.{by_kind}
-use Rattle.doc_model.specs.Drawing.{draw, can_draw}
+use Rattle.doc_model.specs.Drawing.{can_draw}
 use Rattle.doc_model.specs.Laws.{AllowedBy, CommitsUnderLock}
 use Rattle.doc_model.specs.Locks.{allowed, carries, live}
-use Rattle.doc_model.specs.Puts.{commit_reasons, sent_to, added_by, put}
+use Rattle.doc_model.specs.Puts.{commit_reasons, sent_to, added_by}
 use Rattle.doc_model.specs.Turns.{Turn}
 use Rattle.doc_model.proofs.OnStored.{none-holds, not-false, put-accepted}
 
