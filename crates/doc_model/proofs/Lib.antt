@@ -12,3 +12,4 @@ pub mod SoundElements
 pub mod KeepsSound
 pub mod SoundParts
 pub mod SoundCommits
+pub mod KeepsLock
