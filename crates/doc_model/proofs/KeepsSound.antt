@@ -11,13 +11,14 @@ use Rattle.doc_model.specs.declared.call.Sub.TheVariants as sub
 use Rattle.doc_model.specs.declared.doc.Doc.{Doc}
 use Rattle.doc_model.specs.declared.doc.Commit.{Commit}
 use Rattle.doc_model.specs.declared.element.Element.{Element}
+use Rattle.doc_model.specs.declared.lock.LockRecord.{LockRecord}
 use Rattle.doc_model.specs.declared.reply.Code.{Code}
 use Rattle.doc_model.specs.Apply.{by_kind}
 use Rattle.doc_model.specs.Drawing.{draw, can_draw, last_number}
 use Rattle.doc_model.specs.Laws.{KeepsSound, EmptyIsSound}
 use Rattle.doc_model.specs.Limits.{most_added, most_added_weight, most_objects}
 use Rattle.doc_model.specs.Puts.{put, is_part, part_reasons, commit_reasons, kept, committed, sent_to, added_by, fresh, other_parts, has_invalid, too_many_parts}
-use Rattle.doc_model.specs.Sound.{IsSoundElement, IsSoundCommit, Sound, IsValidSub}
+use Rattle.doc_model.specs.Sound.{IsSoundElement, IsSoundCommit, AreSoundMembers, Sound, IsValidSub}
 use Rattle.doc_model.specs.Turns.{Turn, first_refusal, unless}
 use Rattle.doc_model.specs.Weights.{objects_written, weight_of}
 use Rattle.doc_model.proofs.Distinct.{distinct-none}
@@ -77,6 +78,22 @@ module _ (doc : Doc) (s : Sound doc) where
         editors = s.editors;
       })
       s
+
+  -- another lock
+  pub with-lock : (lock : LockRecord) → AreSoundMembers lock → Sound (record doc { lock = lock })
+  with-lock lock m = record {
+    drawn = s.drawn;
+    few_added = s.few_added;
+    light_added = s.light_added;
+    no_null = s.no_null;
+    distinct_ids = s.distinct_ids;
+    added = elements-later doc (record doc { lock = lock }) refl (omega arith) doc.added s.added;
+    distinct_commits = s.distinct_commits;
+    commits = commits-same doc (record doc { lock = lock }) refl doc.commits s.commits;
+    parts = parts-later doc (record doc { lock = lock }) refl (omega arith) doc.parts s.parts;
+    members = m;
+    editors = s.editors;
+  }
 
   module _ (moment : ℕ) (user : List ℕ) (p : Put) (few : All (λ e. objects_written e ≤ most_objects) p.elements) where
     abbrev es : List Element

@@ -18,3 +18,4 @@ pub mod Rows
 pub mod LastCommit
 pub mod UnderLock
 pub mod SameIndex
+pub mod SoundLocks

@@ -20,7 +20,7 @@ use Rattle.doc_model.proofs.OnStored.{and-both, not-true, or-neither}
 use Rattle.doc_model.proofs.SoundElements.{element-later, not-less}
 
 -- a test keeps no more items, and no more weight
-length-filter : {X : Type 0} (p : X → Bool) (xs : List X) → length (filter p xs) ≤ length xs
+pub length-filter : {X : Type 0} (p : X → Bool) (xs : List X) → length (filter p xs) ≤ length xs
 length-filter p [] = omega arith
 length-filter p (x ∷ xs) = at (p x) (length-filter p xs)
   where

@@ -11,7 +11,7 @@ use Rattle.doc_model.specs.declared.lock.LockRecord.{LockRecord}
 use Rattle.doc_model.specs.declared.lock.LockRecord.TheVariants.{Free, Exclusive, Shared}
 use Rattle.doc_model.specs.Apply.{by_kind}
 use Rattle.doc_model.specs.Drawing.{can_draw}
-use Rattle.doc_model.specs.Laws.{AllowedBy, CommitsUnderLock}
+use Rattle.doc_model.specs.LockLaws.{IsFreeOrCarried, CommitsUnderLock}
 use Rattle.doc_model.specs.Locks.{allowed, carries, live}
 use Rattle.doc_model.specs.Puts.{commit_reasons, sent_to, added_by}
 use Rattle.doc_model.specs.Turns.{Turn}
@@ -21,7 +21,7 @@ carried : (o : Option Guid) (id : Guid) → carries o id ≡ true → o ≡ Some
 carried None id h = cc
 carried (Some held) id h = ap (λ (g : Guid). Some g) (guid-same held id h)
 
-allowed-by : (lock : LockRecord) (p : Put) → allowed lock p.carried ≡ true → AllowedBy lock (sub.Put p)
+allowed-by : (lock : LockRecord) (p : Put) → allowed lock p.carried ≡ true → IsFreeOrCarried lock (sub.Put p)
 allowed-by Free p h = tt
 allowed-by (Exclusive id until) p h = carried p.carried id h
 allowed-by (Shared schema members) p h = carried p.carried schema h
@@ -30,7 +30,7 @@ same_commits : (b : Bool) (x y : Turn) (cs : List Commit) → x.doc.commits ≡ 
 same_commits true x y cs p q = p
 same_commits false x y cs p q = q
 
-kind-allowed : (doc : Doc) (m : ℕ) (user : List ℕ) (what : Sub) → (by_kind doc m user what).doc.commits ≢ doc.commits → AllowedBy (live doc.lock m) what
+kind-allowed : (doc : Doc) (m : ℕ) (user : List ℕ) (what : Sub) → (by_kind doc m user what).doc.commits ≢ doc.commits → IsFreeOrCarried (live doc.lock m) what
 kind-allowed doc m user sub.Access ne = absurd (ne refl)
 kind-allowed doc m user (sub.Pull knowledge) ne = absurd (ne refl)
 kind-allowed doc m user (sub.Put p) ne =

@@ -5,19 +5,16 @@ use Rattle.compact_values.specs.declared.guid.Guid.{Guid}
 use Rattle.compact_values.specs.declared.ids.ExGuid.{ExGuid}
 use Rattle.compact_values.specs.declared.ids.ExGuid.TheVariants.{Null}
 use Rattle.doc_model.specs.declared.call.Call.{Call}
-use Rattle.doc_model.specs.declared.call.Put as put_call
-use Rattle.doc_model.specs.declared.call.Sub.{Sub}
-use Rattle.doc_model.specs.declared.call.Sub.TheVariants.{Put}
+use Rattle.doc_model.specs.declared.call.Put.{Put}
 use Rattle.doc_model.specs.declared.doc.Doc.{Doc}
 use Rattle.doc_model.specs.declared.doc.Commit.{Commit}
 use Rattle.doc_model.specs.declared.element.Element.{Element}
-use Rattle.doc_model.specs.declared.lock.LockRecord.{LockRecord}
-use Rattle.doc_model.specs.declared.lock.LockRecord.TheVariants.{Free, Exclusive, Shared}
+use Rattle.doc_model.specs.declared.lock.LockStep.{LockStep}
 use Rattle.doc_model.specs.declared.reply.Reply.{Reply}
 use Rattle.doc_model.specs.declared.reply.Reply.TheVariants.{Pulled}
 use Rattle.doc_model.specs.Apply.{apply, empty_doc, replay}
 use Rattle.doc_model.specs.Files.{file}
-use Rattle.doc_model.specs.Locks.{live}
+use Rattle.doc_model.specs.Locking.{do_lock}
 use Rattle.doc_model.specs.Pulls.{stored_index, pull}
 use Rattle.doc_model.specs.Puts.{put}
 use Rattle.doc_model.specs.Reached.{names, reached}
@@ -28,13 +25,13 @@ abbrev pub UnmovedIsEqual : Type 0
 UnmovedIsEqual = (doc : Doc) (call : Call) → (apply doc call).moved ≡ false → (apply doc call).doc ≡ doc
 
 -- the index that a put expects is the stored one, or it takes any for null and nothing was committed
-abbrev pub ExpectsStored : Doc → put_call.Put → Type 0
+abbrev pub ExpectsStored : Doc → Put → Type 0
 ExpectsStored doc p = (p.expected ≡ stored_index doc.commits) ⊎ ((p.imply_null ≡ true) × (doc.commits ≡ []))
 
 -- Where a put that doesn't win as the last writer changes the commits, it expected the stored index.
 abbrev pub CommitsOnStored : Type 0
 CommitsOnStored =
-    (doc : Doc) (moment : ℕ) (user : List ℕ) (p : put_call.Put) → p.last_writer_wins ≡ false → (put doc moment user p).doc.commits ≢ doc.commits
+    (doc : Doc) (moment : ℕ) (user : List ℕ) (p : Put) → p.last_writer_wins ≡ false → (put doc moment user p).doc.commits ≢ doc.commits
     → ExpectsStored doc p
 
 -- Of a document that is kept, commits with one index are one commit.
@@ -47,22 +44,6 @@ abbrev pub EqualIndexEqualCommits : Type 0
 EqualIndexEqualCommits =
     (doc : Doc) (calls : List (ℕ × Call)) → Sound doc → All (λ item. Valid item.1) calls
     → stored_index (replay doc calls).commits ≡ stored_index doc.commits → (replay doc calls).commits ≡ doc.commits
-
--- a call carries this id
-abbrev pub Carries : Sub → Guid → Type 0
-Carries (Put p) id = p.carried ≡ Some id
-Carries _ id = ⊥
-
--- the lock lets this call change the commits
-abbrev pub AllowedBy : LockRecord → Sub → Type 0
-AllowedBy Free what = Unit {0}
-AllowedBy (Exclusive id until) what = Carries what id
-AllowedBy (Shared schema members) what = Carries what schema
-
--- Where the commits change, the lock was free at the call's moment, or the call carried its id.
-abbrev pub CommitsUnderLock : Type 0
-CommitsUnderLock =
-    (doc : Doc) (call : Call) → (apply doc call).doc.commits ≢ doc.commits → AllowedBy (live doc.lock call.moment) call.sub
 
 -- Where all that an index names is there, elements that are added later change nothing of it.
 abbrev pub AllNamed : List Element → ExGuid → Type 0
@@ -123,3 +104,10 @@ CallsFollow = (doc : Doc) (call : Call) → Sound doc → Follows doc (apply doc
 abbrev pub HistoriesFollow : Type 0
 HistoriesFollow =
     (doc : Doc) (calls : List (ℕ × Call)) → Sound doc → All (λ item. Valid item.1) calls → Sound (replay doc calls) × Follows doc (replay doc calls)
+
+-- The same of the steps of a lock: one that doesn't move leaves the document equal, and each leaves it sound.
+abbrev pub UnmovedStepIsEqual : Type 0
+UnmovedStepIsEqual = (doc : Doc) (moment : ℕ) (step : LockStep) → (do_lock doc moment step).moved ≡ false → (do_lock doc moment step).doc ≡ doc
+
+abbrev pub StepKeepsSound : Type 0
+StepKeepsSound = (doc : Doc) (moment : ℕ) (step : LockStep) → Sound doc → Sound (do_lock doc moment step).doc
