@@ -19,3 +19,4 @@ pub mod LastCommit
 pub mod UnderLock
 pub mod SameIndex
 pub mod SoundLocks
+pub mod Reasons

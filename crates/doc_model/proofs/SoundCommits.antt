@@ -25,8 +25,8 @@ use Rattle.doc_model.proofs.Added.{file-stays, names-found, names-stay, same-add
 use Rattle.doc_model.proofs.Agree.{reached-same}
 use Rattle.doc_model.proofs.Distinct.{distinct-push}
 use Rattle.doc_model.proofs.EachItem.{each-as, none-each}
-use Rattle.doc_model.proofs.OnStored.{not-false, or-neither}
-use Rattle.doc_model.proofs.SoundElements.{IsNew, not-less}
+use Rattle.doc_model.proofs.SoundElements.{IsNew}
+use Rattle.doc_model.proofs.Reasons.{not-false, not-less, or-neither}
 
 -- where something is reached, all that is named is there
 pub reached-named : (added : List Element) (index : ExGuid) (es : List Element) → reached added index ≡ Some es → AllNamed added index

@@ -1,11 +1,10 @@
 -- A step of a lock leaves a document sound, and equal where it doesn't move.
-use Rattle.std.proofs.Common.{◌≡◌, ◌⊎◌, ℕ, suc, ◌+◌, ◌≤◌, ◌<◌, refl, sym, ◌∙◌, ap, subst, Bool, true, false, not, ◌||◌, ◌==◌, cond, List, [], ◌∷◌, map, filter, length, nat_lt, inl, inr, ⊎_elim, arith}
+use Rattle.std.proofs.Common.{◌≡◌, ◌⊎◌, ℕ, suc, ◌+◌, ◌≤◌, ◌<◌, refl, ap, subst, Bool, true, false, not, ◌||◌, ◌==◌, cond, List, [], ◌∷◌, map, filter, length, nat_lt, inl, inr, ⊎_elim, arith}
 use Rattle.std.proofs.lemmas.Bool.Decides.{nat_tests}
-use Rattle.std.proofs.lemmas.Bool.{false≢true}
 use Rattle.std.specs.List.{AllByRecursion as Each, IsDistinct, list_any}
 use Rattle.compact_values.specs.declared.guid.Guid.{Guid}
 use Rattle.compact_values.specs.SameIds.{same_guid}
-use Rattle.compact_values.proofs.SameIds.{guid-same, same-guid}
+use Rattle.compact_values.proofs.SameIds.{guid-same}
 use Rattle.doc_model.specs.declared.doc.Doc.{Doc}
 use Rattle.doc_model.specs.declared.lock.LockRecord.{LockRecord}
 use Rattle.doc_model.specs.declared.lock.LockRecord.TheVariants.{Free, Exclusive, Shared}
@@ -14,10 +13,10 @@ use Rattle.doc_model.specs.declared.lock.LockStep.TheVariants.{TakeExclusive, Dr
 use Rattle.doc_model.specs.declared.lock.Member.{Member}
 use Rattle.doc_model.specs.Laws.{UnmovedStepIsEqual, StepKeepsSound}
 use Rattle.doc_model.specs.Limits.{most_sharing}
-use Rattle.doc_model.specs.Locking.{after_lock, do_lock}
+use Rattle.doc_model.specs.Locking.{after_lock}
 use Rattle.doc_model.specs.Locks.{is_live, live, shared_by}
-use Rattle.doc_model.specs.LockSteps.{LockTurn, becomes, stays, refuses, leaves, on_exclusive, on_shared, on_member, is_client, others, member, with_client, take_shared, to_exclusive, lock_turn, lock_after, lock_moved}
-use Rattle.doc_model.specs.Sound.{AreSoundMembers, Sound}
+use Rattle.doc_model.specs.LockSteps.{LockTurn, becomes, stays, refuses, leaves, on_exclusive, on_shared, on_member, is_client, others, member, with_client, lock_turn, lock_after, lock_moved}
+use Rattle.doc_model.specs.Sound.{AreSoundMembers}
 use Rattle.doc_model.proofs.Distinct.{distinct-filter, distinct-one}
 use Rattle.doc_model.proofs.KeepsSound.{with-lock}
 use Rattle.doc_model.proofs.SoundParts.{length-filter}

@@ -15,7 +15,8 @@ use Rattle.doc_model.specs.LockLaws.{IsFreeOrCarried, CommitsUnderLock}
 use Rattle.doc_model.specs.Locks.{allowed, carries, live}
 use Rattle.doc_model.specs.Puts.{commit_reasons, sent_to, added_by}
 use Rattle.doc_model.specs.Turns.{Turn}
-use Rattle.doc_model.proofs.OnStored.{none-holds, not-false, put-accepted}
+use Rattle.doc_model.proofs.OnStored.{put-accepted}
+use Rattle.doc_model.proofs.Reasons.{none-holds, not-false}
 
 carried : (o : Option Guid) (id : Guid) → carries o id ≡ true → o ≡ Some id
 carried None id h = cc
