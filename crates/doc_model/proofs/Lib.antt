@@ -15,3 +15,4 @@ pub mod SoundCommits
 pub mod KeepsLock
 pub mod Following
 pub mod Rows
+pub mod SameContents
