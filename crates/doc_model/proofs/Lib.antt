@@ -20,3 +20,4 @@ pub mod UnderLock
 pub mod SameIndex
 pub mod SoundLocks
 pub mod Reasons
+pub mod SameContents
