@@ -1,5 +1,5 @@
 -- What holds of every document and every call.
-use Rattle.std.specs.Prelude.{◌≡◌, ◌≢◌, ◌⊎◌, ℕ, true, false, IsTrue, List, [], ◌++◌, map, Some, is_some}
+use Rattle.std.specs.Prelude.{◌≡◌, ◌≢◌, ◌⊎◌, ℕ, true, false, IsTrue, List, [], ◌++◌, map, Some, None, is_some}
 use Rattle.std.specs.List.{All, list_all, slice_get}
 use Rattle.compact_values.specs.declared.guid.Guid.{Guid}
 use Rattle.compact_values.specs.declared.ids.ExGuid.{ExGuid}
@@ -13,7 +13,8 @@ use Rattle.doc_model.specs.declared.lock.LockStep.{LockStep}
 use Rattle.doc_model.specs.declared.reply.Reply.{Reply}
 use Rattle.doc_model.specs.declared.reply.Reply.TheVariants.{Pulled}
 use Rattle.doc_model.specs.Apply.{apply, empty_doc, replay}
-use Rattle.doc_model.specs.Files.{file}
+use Rattle.doc_model.specs.Files.{file, root_chain}
+use Rattle.doc_model.specs.Finding.{find_element}
 use Rattle.doc_model.specs.Locking.{do_lock}
 use Rattle.doc_model.specs.Pulls.{stored_index, pull}
 use Rattle.doc_model.specs.Puts.{put}
@@ -51,6 +52,16 @@ AllNamed added index = IsTrue (list_all (λ n. n.found) (names added index))
 
 abbrev pub NamesStay : Type 0
 NamesStay = (added more : List Element) (index : ExGuid) → AllNamed added index → names (added ++ more) index ≡ names added index
+
+-- elements whose ids are new
+abbrev pub AreNew : List Element → List Element → Type 0
+AreNew added more = All (λ e. find_element added e.id ≡ None) more
+
+abbrev pub ReachedStays : Type 0
+ReachedStays = (added more : List Element) (index : ExGuid) → AllNamed added index → AreNew added more → reached (added ++ more) index ≡ reached added index
+
+abbrev pub ChainStays : Type 0
+ChainStays = (added more : List Element) (index : ExGuid) → AllNamed added index → root_chain (added ++ more) index ≡ root_chain added index
 
 abbrev pub FileStays : Type 0
 FileStays = (added more : List Element) (index : ExGuid) → AllNamed added index → file (added ++ more) index ≡ file added index

@@ -1,5 +1,5 @@
 //! Laws of the definitions: each function's contract is one, and it does nothing.
-ghost use Rattle.doc_model.specs.Laws.{UnmovedIsEqual, CommitsOnStored, OneCommitOfIndex, EqualIndexEqualCommits, NamesStay, FileStays, DownloadsTheFile, DownloadsWhatIsReached, DownloadsNothing, KeepsSound, EmptyIsSound, CallsFollow, HistoriesFollow, UnmovedStepIsEqual, StepKeepsSound};
+ghost use Rattle.doc_model.specs.Laws.{UnmovedIsEqual, CommitsOnStored, OneCommitOfIndex, EqualIndexEqualCommits, NamesStay, ReachedStays, ChainStays, FileStays, DownloadsTheFile, DownloadsWhatIsReached, DownloadsNothing, KeepsSound, EmptyIsSound, CallsFollow, HistoriesFollow, UnmovedStepIsEqual, StepKeepsSound};
 ghost use Rattle.doc_model.specs.LockLaws.{CommitsUnderLock};
 
 /// A call that doesn't move leaves the document equal, and so does a step of a lock.
@@ -21,9 +21,12 @@ pub fn commits_under_the_lock()
     ensures { CommitsUnderLock }
 {}
 
-/// Elements that are added later change neither what an index names nor its file, where all that it names is there.
+/// Elements that are added later change neither what an index names nor its chain of revisions nor its file, where all
+/// that it names is there; and where their ids are new, they change nothing of what is reached.
 pub fn later_elements_change_nothing()
     ensures names { NamesStay }
+    ensures reached { ReachedStays }
+    ensures chain { ChainStays }
     ensures file { FileStays }
 {}
 
