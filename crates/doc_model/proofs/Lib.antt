@@ -13,3 +13,5 @@ pub mod KeepsSound
 pub mod SoundParts
 pub mod SoundCommits
 pub mod KeepsLock
+pub mod KeepsMembers
+pub mod UnderLock
