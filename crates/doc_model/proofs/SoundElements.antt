@@ -1,5 +1,5 @@
 -- What a put adds is sound: each of its ids is new, drawn and not null, and each is written in few objects.
-use Rattle.std.proofs.Common.{◌≡◌, ◌≢◌, ℕ, ◌≤◌, refl, sym, ◌∙◌, ap, Bool, true, false, ◌&&◌, ◌||◌, List, ◌++◌, map, nat_lt, arith}
+use Rattle.std.proofs.Common.{◌≡◌, ◌≢◌, ℕ, ◌+◌, ◌≤◌, ◌<◌, refl, sym, ◌∙◌, ap, subst, Bool, true, false, not, ◌&&◌, ◌||◌, ◌==◌, cond, List, [], ◌∷◌, ◌++◌, map, filter, find, length, nat_lt, nat_eq, Option, Some, None, arith}
 use Rattle.std.proofs.lemmas.Bool.Decides.{nat_tests}
 use Rattle.std.proofs.lemmas.Bool.{false≢true}
 use Rattle.std.specs.List.{AllByRecursion as Each, IsDistinct, list_any}
@@ -68,7 +68,7 @@ distinct-added added es d =
     distinct-more same_id (λ e. e.id) added (fresh added es) d
     (distinct-filter same_id (λ e. e.id) (is_new added) (firsts same_ids es) (distinct-firsts same_id (λ e. e.id) same-id-flips es))
     (each-as (IsNew added) (λ e. Each (λ x. same_id x.id e.id ≡ false) added) (fresh added es)
-    (λ e n. each-as (λ x. same_ids e x ≡ false) (λ x. same_id x.id e.id ≡ false) added (λ x h. same-id-flips x.id e.id ∙ h) n) (fresh-new added es))
+     (λ e n. each-as (λ x. same_ids e x ≡ false) (λ x. same_id x.id e.id ≡ false) added (λ x h. same-id-flips x.id e.id ∙ h) n) (fresh-new added es))
 
 -- an element stays sound while more is drawn
 drawn-later : (d d' : Doc) → d'.guid ≡ d.guid → d.drawn ≤ d'.drawn → (id : ExGuid) → IsDrawn d id → IsDrawn d' id
