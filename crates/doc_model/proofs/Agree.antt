@@ -1,5 +1,5 @@
 -- What an index names, its chains and its file depend on what stands under the named ids alone.
-use Rattle.std.proofs.Common.{◌≡◌, ℕ, zero, suc, ◌+◌, ◌≤◌, ◌<◌, refl, sym, ◌∙◌, ap, subst, Bool, true, false, ◌&&◌, cond, List, [], ◌∷◌, ◌++◌, map, flat_map, find, take, length, Option, Some, None, option_map, option_and_then, unwrap_or, arith}
+use Rattle.std.proofs.Common.{◌≡◌, ℕ, zero, suc, ◌≤◌, refl, sym, ◌∙◌, ap, subst, Bool, true, ◌&&◌, cond, List, [], ◌∷◌, ◌++◌, map, flat_map, find, take, Option, Some, None, option_map, option_and_then, unwrap_or, arith}
 use Rattle.std.specs.Prelude.{is_some}
 use Rattle.std.specs.List.{AllByRecursion as Each, list_all}
 use Rattle.compact_values.specs.declared.ids.ExGuid.{ExGuid}
@@ -17,11 +17,11 @@ use Rattle.doc_model.specs.declared.element.Root.{Root}
 use Rattle.doc_model.specs.declared.element.Object.{Object}
 use Rattle.doc_model.specs.declared.element.Content.{Content}
 use Rattle.doc_model.specs.declared.element.Content.TheVariants.{Inline, Apart}
-use Rattle.doc_model.specs.FileObjects.{FileObject, root_file}
-use Rattle.doc_model.specs.Files.{current_revision, root_chain, objects_of, own_bytes, as_file_object, file_objects, root_object, file_of_chain, file, group_objects, revision_objects}
+use Rattle.doc_model.specs.FileObjects.{root_file}
+use Rattle.doc_model.specs.Files.{current_revision, objects_of, own_bytes, as_file_object, file_objects, root_object, file_of_chain, file, group_objects, revision_objects}
 use Rattle.doc_model.specs.Finding.{first, find_element, said, firsts, Manifest, Mappings, as_index, as_storage, as_cell, as_revision, as_group, as_blob}
 use Rattle.doc_model.specs.Reached.{name, mapping_of, manifest_of, base_of, named_along, named_revisions, reached, reached_from, enough, longest, chain, chains_end, revision_name, cell_name, storage_name, group_name, blob_name, groups_of, groups_by, blobs_of, blob_of, cells_of, same_cells, current_of, currents_of, names, names_below}
-use Rattle.doc_model.proofs.EachItem.{each-front, each-back, each-map, each-mapped, each-flat, each-flat-map, each-both, each-as, map-same, flat-same, all-same}
+use Rattle.doc_model.proofs.EachItem.{each-front, each-back, each-map, each-flat, each-flat-map, each-both, each-as, map-same, flat-same, all-same}
 use Rattle.doc_model.proofs.Firsts.{first-kept}
 
 first-cell : (Q : CellMap → Type 0) (key : CellId) (cells : List CellMap) (c : CellMap) → Each Q (firsts same_cells cells)
@@ -240,20 +240,20 @@ module _ (a b : List Element) where
       below_same : names_below b maps ≡ names_below a maps
       below_same =
           let s : map (storage_name b) (take 1 maps.manifests) ≡ storage = map-same (storage_name b) (storage_name a) (take 1 maps.manifests)
-                  (each-as (λ m. Same m.target) (λ m. storage_name b m ≡ storage_name a m) (take 1 maps.manifests) (λ m t. named_same as_storage m.target t) storage_same) in
+          (each-as (λ m. Same m.target) (λ m. storage_name b m ≡ storage_name a m) (take 1 maps.manifests) (λ m t. named_same as_storage m.target t) storage_same) in
           let c : map (cell_name b) (cells_of maps) ≡ cells = map-same (cell_name b) (cell_name a) (cells_of maps)
-                  (each-as (λ x. Same x.target) (λ x. cell_name b x ≡ cell_name a x) (cells_of maps) (λ x t. named_same as_cell x.target t) targets_same) in
+          (each-as (λ x. Same x.target) (λ x. cell_name b x ≡ cell_name a x) (cells_of maps) (λ x t. named_same as_cell x.target t) targets_same) in
           let r : map (revision_name b maps.revisions) (named_revisions b maps.revisions (currents_of b maps)) ≡ revisions =
-                  ap (map (revision_name b maps.revisions)) rs_same
-                  ∙ map-same (revision_name b maps.revisions) (revision_name a maps.revisions) rs
-                  (each-as (SameRevision maps.revisions) (λ x. revision_name b maps.revisions x ≡ revision_name a maps.revisions x) rs
-                  (λ x t. ap (λ o. name (unwrap_or (option_map (λ m. m.target) (mapping_of maps.revisions x)) x) o) t) revisions_same) in
+          ap (map (revision_name b maps.revisions)) rs_same
+          ∙ map-same (revision_name b maps.revisions) (revision_name a maps.revisions) rs
+          (each-as (SameRevision maps.revisions) (λ x. revision_name b maps.revisions x ≡ revision_name a maps.revisions x) rs
+          (λ x t. ap (λ o. name (unwrap_or (option_map (λ m. m.target) (mapping_of maps.revisions x)) x) o) t) revisions_same) in
           let g : map (group_name b) (flat_map (groups_of b maps.revisions) (named_revisions b maps.revisions (currents_of b maps))) ≡ groups =
-                  ap (map (group_name b)) gs_same
-                  ∙ map-same (group_name b) (group_name a) gs (each-as Same (λ x. group_name b x ≡ group_name a x) gs (λ x t. named_same as_group x t) group_ids_same) in
+          ap (map (group_name b)) gs_same
+          ∙ map-same (group_name b) (group_name a) gs (each-as Same (λ x. group_name b x ≡ group_name a x) gs (λ x t. named_same as_group x t) group_ids_same) in
           let w : map (blob_name b) (flat_map (blobs_of b) (flat_map (groups_of b maps.revisions) (named_revisions b maps.revisions (currents_of b maps)))) ≡ blobs =
-                  ap (map (blob_name b)) (bs_same (flat_map (groups_of b maps.revisions) (named_revisions b maps.revisions (currents_of b maps))) gs_same)
-                  ∙ map-same (blob_name b) (blob_name a) bs (each-as Same (λ x. blob_name b x ≡ blob_name a x) bs (λ x t. named_same as_blob x t) blobs_same) in
+          ap (map (blob_name b)) (bs_same (flat_map (groups_of b maps.revisions) (named_revisions b maps.revisions (currents_of b maps))) gs_same)
+          ∙ map-same (blob_name b) (blob_name a) bs (each-as Same (λ x. blob_name b x ≡ blob_name a x) bs (λ x t. named_same as_blob x t) blobs_same) in
           five s c r g w
         where
           five : {A : Type 0} {s s' c c' r r' g g' w w' : List A} → s ≡ s' → c ≡ c' → r ≡ r' → g ≡ g' → w ≡ w'

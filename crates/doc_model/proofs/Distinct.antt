@@ -1,8 +1,8 @@
 -- Lists whose keys differ.
-use Rattle.std.proofs.Common.{◌≡◌, refl, sym, ◌∙◌, ap, Bool, true, false, ◌&&◌, cond, List, [], ◌∷◌, ◌++◌, map, filter, fold}
+use Rattle.std.proofs.Common.{◌≡◌, refl, ◌∙◌, Bool, true, false, cond, List, [], ◌∷◌, ◌++◌, map, filter, fold}
 use Rattle.std.specs.List.{AllByRecursion as Each, IsDistinct, list_any}
 use Rattle.doc_model.specs.Finding.{with_new, firsts}
-use Rattle.doc_model.proofs.EachItem.{each-append, each-as, each-front, each-map, each-mapped, each-filter, none-each}
+use Rattle.doc_model.proofs.EachItem.{each-append, each-as, each-map, each-mapped, each-filter, none-each}
 
 module _ {K : Type 0} (same : K → K → Bool) where
   -- this key differs from each of those
@@ -27,20 +27,22 @@ module _ {K : Type 0} (same : K → K → Bool) where
     pub distinct-push : (xs : List X) (x : X) → IsDistinct same (map key xs) → Each (λ y. same (key y) (key x) ≡ false) xs → IsDistinct same (map key (xs ++ x ∷ []))
     unfolding IsDistinct
     distinct-push [] x p h = (tt, tt)
-    distinct-push (y ∷ ys) x p h =
-        (each-mapped (λ k. same (key y) k ≡ false) key (ys ++ x ∷ []) (each-append (λ z. same (key y) (key z) ≡ false) ys (x ∷ []) (each-map (λ k. same (key y) k ≡ false) key ys p.0) (h.0, tt)),
-         distinct-push ys x p.1 h.1)
+    distinct-push (y ∷ ys) x p h = (
+      each-mapped (λ k. same (key y) k ≡ false) key (ys ++ x ∷ []) (each-append (λ z. same (key y) (key z) ≡ false) ys (x ∷ []) (each-map (λ k. same (key y) k ≡ false) key ys p.0) (h.0, tt)),
+      distinct-push ys x p.1 h.1,
+    )
 
     -- several more
     pub distinct-more : (xs ys : List X) → IsDistinct same (map key xs) → IsDistinct same (map key ys) → Each (λ y. Each (λ x. same (key x) (key y) ≡ false) xs) ys → IsDistinct same (map key (xs ++ ys))
     unfolding IsDistinct
     distinct-more [] ys p q h = q
-    distinct-more (x ∷ xs) ys p q h =
-        (each-mapped (λ k. same (key x) k ≡ false) key (xs ++ ys)
-         (each-append (λ z. same (key x) (key z) ≡ false) xs ys (each-map (λ k. same (key x) k ≡ false) key xs p.0)
+    distinct-more (x ∷ xs) ys p q h = (
+      each-mapped (λ k. same (key x) k ≡ false) key (xs ++ ys)
+          (each-append (λ z. same (key x) (key z) ≡ false) xs ys (each-map (λ k. same (key x) k ≡ false) key xs p.0)
           (each-as (λ y. Each (λ z. same (key z) (key y) ≡ false) (x ∷ xs)) (λ y. same (key x) (key y) ≡ false) ys (λ y d. d.0) h)),
-         distinct-more xs ys p.1 q
-         (each-as (λ y. Each (λ z. same (key z) (key y) ≡ false) (x ∷ xs)) (λ y. Each (λ z. same (key z) (key y) ≡ false) xs) ys (λ y d. d.1) h))
+      distinct-more xs ys p.1 q
+          (each-as (λ y. Each (λ z. same (key z) (key y) ≡ false) (x ∷ xs)) (λ y. Each (λ z. same (key z) (key y) ≡ false) xs) ys (λ y d. d.1) h),
+    )
 
     pub distinct-filter : (p : X → Bool) (xs : List X) → IsDistinct same (map key xs) → IsDistinct same (map key (filter p xs))
     unfolding IsDistinct

@@ -1,5 +1,5 @@
 -- What a client that knows nothing is sent has the document's file.
-use Rattle.std.proofs.Common.{◌≡◌, ◌≢◌, ℕ, ◌+◌, refl, sym, ◌∙◌, ap, Bool, true, false, ◌&&◌, ◌||◌, ◌==◌, cond, List, [], ◌∷◌, map, filter, find, length, Option, Some, arith}
+use Rattle.std.proofs.Common.{◌≡◌, ◌≢◌, ℕ, ◌+◌, refl, sym, ◌∙◌, ap, Bool, true, false, ◌&&◌, ◌||◌, ◌==◌, cond, List, [], ◌∷◌, map, filter, find, length, Some, arith}
 use Rattle.std.specs.List.{AllByRecursion as Each}
 use Rattle.std.proofs.lemmas.Bool.{false≢true}
 use Rattle.std.proofs.lemmas.Bool.Decides.{nat_tests}
@@ -78,6 +78,7 @@ none-lacking guid n (e ∷ es) = none-lacking guid (n + 1) es
 
 pub downloads-nothing : DownloadsNothing
 downloads-nothing doc none =
-    let e : named_ids doc.added doc.commits ≡ [] = ap (λ (cs : List Commit). named_ids doc.added cs) none in
-    (ap (λ (cs : List Commit). stored_index cs) none,
-     ap (λ ids. map (λ x. x.element) (lacking doc.guid [] ids doc.added)) e ∙ ap (map (λ x. x.element)) (none-lacking doc.guid 1 doc.added))
+    let e : named_ids doc.added doc.commits ≡ [] = ap (λ (cs : List Commit). named_ids doc.added cs) none in (
+      ap (λ (cs : List Commit). stored_index cs) none,
+      ap (λ ids. map (λ x. x.element) (lacking doc.guid [] ids doc.added)) e ∙ ap (map (λ x. x.element)) (none-lacking doc.guid 1 doc.added),
+    )

@@ -15,3 +15,6 @@ pub mod SoundCommits
 pub mod KeepsLock
 pub mod KeepsMembers
 pub mod UnderLock
+pub mod Following
+pub mod Rows
+pub mod SameContents

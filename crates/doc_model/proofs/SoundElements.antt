@@ -1,5 +1,5 @@
 -- What a put adds is sound: each of its ids is new, drawn and not null, and each is written in few objects.
-use Rattle.std.proofs.Common.{◌≡◌, ◌≢◌, ℕ, ◌+◌, ◌≤◌, ◌<◌, refl, sym, ◌∙◌, ap, subst, Bool, true, false, not, ◌&&◌, ◌||◌, ◌==◌, cond, List, [], ◌∷◌, ◌++◌, map, filter, find, length, nat_lt, nat_eq, Option, Some, None, arith}
+use Rattle.std.proofs.Common.{◌≡◌, ◌≢◌, ℕ, ◌≤◌, refl, sym, ◌∙◌, ap, Bool, true, false, ◌&&◌, ◌||◌, List, ◌++◌, map, nat_lt, arith}
 use Rattle.std.proofs.lemmas.Bool.Decides.{nat_tests}
 use Rattle.std.proofs.lemmas.Bool.{false≢true}
 use Rattle.std.specs.List.{AllByRecursion as Each, IsDistinct, list_any}
@@ -12,7 +12,7 @@ use Rattle.doc_model.specs.declared.doc.Doc.{Doc}
 use Rattle.doc_model.specs.declared.element.Element.{Element}
 use Rattle.doc_model.specs.Finding.{firsts}
 use Rattle.doc_model.specs.Limits.{most_objects}
-use Rattle.doc_model.specs.Puts.{fresh, same_ids, is_new, is_foreign, disagree, is_invalid, has_invalid}
+use Rattle.doc_model.specs.Puts.{fresh, same_ids, is_new, is_foreign, is_invalid, grown, has_invalid}
 use Rattle.doc_model.specs.Sound.{IsDrawn, IsSoundElement}
 use Rattle.doc_model.specs.Weights.{objects_written}
 use Rattle.doc_model.proofs.Distinct.{distinct-filter, distinct-firsts, distinct-more, each-firsts}
@@ -46,9 +46,10 @@ owned doc (Id g v) h = (λ e. not-less doc.drawn v (at (same_guid g doc.guid) (a
 
 pub each-owned : (doc : Doc) (es : List Element) → has_invalid doc.guid doc.drawn doc.added es ≡ false → Each (λ e. IsOwned doc e.id) es
 each-owned doc es h =
-    each-as (λ e. is_invalid doc.guid doc.drawn doc.added es e ≡ false) (λ e. IsOwned doc e.id) es
-    (λ e i. owned doc e.id (or-neither _ _ (or-neither (is_foreign doc.guid doc.drawn e.id || list_any (disagree e) doc.added) _ i).0).0)
-    (none-each (is_invalid doc.guid doc.drawn doc.added es) es h)
+    let all = grown doc.added es in
+    each-as (λ e. is_invalid doc.guid doc.drawn all e ≡ false) (λ e. IsOwned doc e.id) es
+    (λ e i. owned doc e.id (or-neither (is_foreign doc.guid doc.drawn e.id) _ i).0)
+    (none-each (is_invalid doc.guid doc.drawn all) es h)
 
 -- what is new of some elements
 pub each-fresh : (P : Element → Type 0) (added es : List Element) → Each P es → Each P (fresh added es)
@@ -68,7 +69,7 @@ distinct-added added es d =
     distinct-more same_id (λ e. e.id) added (fresh added es) d
     (distinct-filter same_id (λ e. e.id) (is_new added) (firsts same_ids es) (distinct-firsts same_id (λ e. e.id) same-id-flips es))
     (each-as (IsNew added) (λ e. Each (λ x. same_id x.id e.id ≡ false) added) (fresh added es)
-     (λ e n. each-as (λ x. same_ids e x ≡ false) (λ x. same_id x.id e.id ≡ false) added (λ x h. same-id-flips x.id e.id ∙ h) n) (fresh-new added es))
+    (λ e n. each-as (λ x. same_ids e x ≡ false) (λ x. same_id x.id e.id ≡ false) added (λ x h. same-id-flips x.id e.id ∙ h) n) (fresh-new added es))
 
 -- an element stays sound while more is drawn
 drawn-later : (d d' : Doc) → d'.guid ≡ d.guid → d.drawn ≤ d'.drawn → (id : ExGuid) → IsDrawn d id → IsDrawn d' id

@@ -5,6 +5,8 @@
 //! - `reply`: what a sub-response holds
 //! - `sub_response`: reading a sub-response
 //! - `read`: reading a response
+//! - `write_reply`: writing what a sub-response holds
+//! - `write`: writing a response
 #![tactic(auto)]
 
 mod front;
@@ -12,5 +14,11 @@ mod read;
 mod reply;
 mod rows;
 mod sub_response;
+mod write;
+mod write_reply;
 
 pub use read::read_cell_response;
+pub use write::{write_cell_failure, write_cell_response};
+
+#[cfg(test)]
+mod tests;
