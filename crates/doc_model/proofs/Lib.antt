@@ -17,4 +17,8 @@ pub mod KeepsMembers
 pub mod UnderLock
 pub mod Following
 pub mod Rows
+pub mod LastCommit
+pub mod SameIndex
+pub mod SoundLocks
+pub mod Reasons
 pub mod SameContents

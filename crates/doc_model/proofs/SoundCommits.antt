@@ -25,8 +25,8 @@ use Rattle.doc_model.proofs.Added.{file-stays, names-found, names-stay, same-add
 use Rattle.doc_model.proofs.Agree.{reached-same}
 use Rattle.doc_model.proofs.Distinct.{distinct-push}
 use Rattle.doc_model.proofs.EachItem.{each-as, none-each}
-use Rattle.doc_model.proofs.OnStored.{not-false, or-neither}
-use Rattle.doc_model.proofs.SoundElements.{IsNew, not-less}
+use Rattle.doc_model.proofs.SoundElements.{IsNew}
+use Rattle.doc_model.proofs.Reasons.{not-false, not-less, or-neither}
 
 -- where something is reached, all that is named is there
 pub reached-named : (added : List Element) (index : ExGuid) (es : List Element) → reached added index ≡ Some es → AllNamed added index
@@ -131,3 +131,16 @@ commit-new d c found serial small =
 pub distinct-commits : (commits : List Commit) (c : Commit) → is_committed commits c.index ≡ false → IsDistinct same_id (map (λ x. x.index) commits)
     → IsDistinct same_id (map (λ x. x.index) (commits ++ c ∷ []))
 distinct-commits commits c h d = distinct-push same_id (λ x. x.index) commits c d (none-each (λ x. same_id x.index c.index) commits h)
+
+-- what is reached is what is named
+pub reached-from-named : (added : List Element) (index : ExGuid) (es : List Element) → reached added index ≡ Some es → reached added index ≡ Some (reached_from added index)
+reached-from-named added index es h = by-index (said as_index added index) h
+  where
+    by-tests : (b : Bool) (r : List Element) → cond b (Some r) None ≡ Some es → cond b (Some r) None ≡ Some r
+    by-tests true r h = refl
+    by-tests false r h = cc
+
+    by-index : (o : Option Mappings) → option_and_then (λ maps. cond (list_all (λ n. n.found) (names added index) && chains_end added maps) (Some (reached_from added index)) None) o ≡ Some es
+        → option_and_then (λ maps. cond (list_all (λ n. n.found) (names added index) && chains_end added maps) (Some (reached_from added index)) None) o ≡ Some (reached_from added index)
+    by-index None h = cc
+    by-index (Some maps) h = by-tests (list_all (λ n. n.found) (names added index) && chains_end added maps) (reached_from added index) h
