@@ -13,10 +13,11 @@ pub mod KeepsSound
 pub mod SoundParts
 pub mod SoundCommits
 pub mod KeepsLock
+pub mod KeepsMembers
+pub mod UnderLock
 pub mod Following
 pub mod Rows
 pub mod LastCommit
-pub mod UnderLock
 pub mod SameIndex
 pub mod SoundLocks
 pub mod Reasons
