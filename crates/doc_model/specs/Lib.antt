@@ -34,3 +34,4 @@ pub mod NumberedElements
 pub mod SeenResponses
 pub mod ResponseParts
 pub mod Laws
+pub mod LockLaws

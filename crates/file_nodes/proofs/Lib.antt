@@ -3,3 +3,4 @@ pub mod PartLaws
 pub mod FindLaws
 pub mod FileLaw
 pub mod ChunkedFile
+pub mod References
