@@ -1,0 +1,9 @@
+pub mod TableSteps
+pub mod WalkTables
+pub mod IndexSteps
+pub mod Joins
+pub mod NodeReading
+pub mod FileLaws
+pub mod Heights
+pub mod FileJoins
+pub mod FileAnswerLaws

@@ -1,0 +1,4 @@
+pub mod FileWalks
+pub mod Links
+pub mod Index
+pub mod FileAnswers

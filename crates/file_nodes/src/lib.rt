@@ -1,2 +1,25 @@
 //! Files as nodes (MS-FSSHTTPD 2.2): the file that objects stand for, and the objects that a file is cut into.
+//!
+//! - `object_map`: the objects that a file is made of
+//! - `file`: the file that they stand for
+//! - `fault`: why they stand for none
+//! - `node`: nodes as they are read
+//! - `places`, `links`: what each object refers to, by places
+//! - `walks`: the length of each object's file, or the first fault of a walk through it
+//! - `laws`: what holds of the walks
+//! - `join`: the bytes of a file, joined from those of its objects
 #![tactic(auto)]
+
+mod fault;
+mod file;
+mod join;
+pub mod laws;
+mod links;
+mod node;
+mod object_map;
+mod places;
+mod walks;
+
+pub use fault::NodeFault;
+pub use file::file_of;
+pub use object_map::{ObjectMap, StoredObject};
