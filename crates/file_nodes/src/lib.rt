@@ -23,3 +23,6 @@ mod walks;
 pub use fault::NodeFault;
 pub use file::file_of;
 pub use object_map::{ObjectMap, StoredObject};
+
+#[cfg(test)]
+mod file_tests;
