@@ -1,6 +1,7 @@
 //! Data elements, packages of them and knowledge on the wire (MS-FSSHTTPB 2.2.1.12 and 2.2.1.13), both ways.
 //!
 //! - `package`: reading the elements of a package
+//! - `numbered`: reading them with their serial numbers
 //! - `body`: reading what an element says, by its kind
 //! - `group`: reading the objects of a group
 //! - `check`: which child of an element is the first that isn't in its form
@@ -23,6 +24,7 @@ mod group;
 mod knowledge;
 pub mod laws;
 mod members;
+mod numbered;
 mod package;
 mod rows;
 mod wire_fault;
@@ -33,6 +35,7 @@ mod write_manifests;
 
 pub use fault::ElementFault;
 pub use knowledge::read_knowledge;
+pub use numbered::read_numbered;
 pub use package::read_package;
 pub use wire_fault::WireFault;
 pub use write::{write_element, write_knowledge, write_package};

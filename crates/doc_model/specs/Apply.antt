@@ -3,13 +3,14 @@ use Rattle.std.specs.Prelude.{◌≡◌, ℕ, List, [], fold, Option, Some}
 use Rattle.compact_values.specs.declared.guid.Guid.{Guid}
 use Rattle.doc_model.specs.declared.call.Call.{Call}
 use Rattle.doc_model.specs.declared.call.Sub.{Sub}
-use Rattle.doc_model.specs.declared.call.Sub.TheVariants.{Access, Pull, Draw}
+use Rattle.doc_model.specs.declared.call.Sub.TheVariants.{Access, Pull, Put, Draw}
 use Rattle.doc_model.specs.declared.core_trait.Plan.{Plan}
 use Rattle.doc_model.specs.declared.doc.Doc.{Doc}
 use Rattle.doc_model.specs.declared.lock.LockRecord.TheVariants.{Free}
 use Rattle.doc_model.specs.declared.reply.Reply.TheVariants as reply
 use Rattle.doc_model.specs.Drawing.{draw}
 use Rattle.doc_model.specs.Pulls.{pull}
+use Rattle.doc_model.specs.Puts.{put}
 use Rattle.doc_model.specs.Turns.{Turn, reading}
 
 -- a document without anything
@@ -20,6 +21,7 @@ empty_doc guid = record { guid = guid; added = []; commits = []; lock = Free; ed
 abbrev pub by_kind : Doc → ℕ → List ℕ → Sub → Turn
 by_kind doc moment user Access = reading doc reply.Access
 by_kind doc moment user (Pull knowledge) = reading doc (pull doc knowledge.ranges)
+by_kind doc moment user (Put p) = put doc moment user p
 by_kind doc moment user (Draw count) = draw doc count
 
 abbrev pub apply : Doc → Call → Turn

@@ -26,9 +26,12 @@ pub mod Files
 pub mod Pulls
 pub mod Locks
 pub mod LockSteps
+pub mod Locking
 pub mod Sound
 pub mod Puts
 pub mod Apply
 pub mod NumberedElements
 pub mod SeenResponses
 pub mod ResponseParts
+pub mod Laws
+pub mod LockLaws

@@ -72,10 +72,10 @@ part_start (allocate t) = start_of t
 -- ---- reading order
 
 abbrev pub failure_parts : Tree → List Part
-failure_parts t = failure t ∷ map failure_number (children_of 0x66 t)
+failure_parts t = failure t ∷ flat_map (λ c. failure_number c ∷ []) (children_of 0x66 t)
 
 abbrev pub success_parts : Tree → List Part
-success_parts t = success t ∷ map success_number (children_of 0x52 t)
+success_parts t = success t ∷ flat_map (λ c. success_number c ∷ []) (children_of 0x52 t)
 
 abbrev pub access_parts : Tree → List Part
 access_parts t = access t ∷ flat_map success_parts (children_of 0x4D t)
@@ -90,15 +90,14 @@ comes_first one other (t ∷ ts) = if is_kind one t then true else if is_kind ot
 
 -- the parts of two children, in the order in which these stand
 abbrev pub in_order : Bool → List Part → List Part → List Part
-in_order true first second = first ++ second
-in_order false first second = second ++ first
+in_order first one other = if first then one ++ other else other ++ one
 
 abbrev pub reply_parts : List ℕ → Tree → ReplyForm → List Part
 reply_parts input t Failed = flat_map failure_parts (children_of 0x4D t)
 reply_parts input t Access = in_order (comes_first 0x43 0x46 (out-Tree t).children) (flat_map access_parts (children_of 0x43 t)) (flat_map access_parts (children_of 0x46 t))
-reply_parts input t Pulled = in_order (comes_first 0x5F 0x10 (out-Tree t).children) (map query (children_of 0x5F t)) (flat_map (known_parts input) (children_of 0x10 t))
+reply_parts input t Pulled = in_order (comes_first 0x5F 0x10 (out-Tree t).children) (flat_map (λ c. query c ∷ []) (children_of 0x5F t)) (flat_map (known_parts input) (children_of 0x10 t))
 reply_parts input t Stored = flat_map (known_parts input) (children_of 0x10 t)
-reply_parts input t Drawn = map allocate (children_of 0x81 t)
+reply_parts input t Drawn = flat_map (λ c. allocate c ∷ []) (children_of 0x81 t)
 
 -- the fields of a sub-response, where it has them
 abbrev pub sub_row : List ℕ → Tree → Option (ℕ × (ℕ × ℕ))

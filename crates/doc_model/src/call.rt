@@ -32,6 +32,8 @@ pub enum Sub {
     Access,
     /// Query Changes: what the caller, who knows this, lacks.
     Pull { knowledge: Knowledge },
+    /// Put Changes: an upload.
+    Put { put: Put },
     /// Allocate Extended GUID Range: so many numbers.
     Draw { count: u64 },
 }

@@ -11,12 +11,12 @@ use Rattle.compact_values.specs.SameIds.{same_id}
 use Rattle.doc_model.specs.FileObjects.{FileObject, joined, node_file, file_below}
 use Rattle.doc_model.specs.Nodes.{node_size}
 use Rattle.file_nodes.specs.FileAnswers.{Agrees, stored_file, IsFile, IsTooLarge, IsFileAnswer, IsOrNoMemory, Exactly}
-use Rattle.file_nodes.specs.FileWalks.{as_file_object, file_objects, find_stored, total, arrived, arrive, behind, walk, walk_from, walk_root, fault_of, first_fault}
+use Rattle.file_nodes.specs.FileWalks.{as_file_object, stored_objects, find_stored, total, arrived, arrive, behind, walk, walk_from, walk_root, fault_of, first_fault}
 use Rattle.file_nodes.specs.Links.{place_of, below_table, joined_from, answer_by, node_answer, answer_at, file_answer}
 use Rattle.file_nodes.specs.declared.fault.NodeFault.{NodeFault}
 use Rattle.file_nodes.specs.declared.fault.NodeFault.TheVariants.{Absent, TooHigh, NotANode, SizeDiffers, TooLarge, NoMemory}
 use Rattle.file_nodes.specs.declared.object_map.StoredObject.{StoredObject}
-use Rattle.file_nodes.proofs.FileLaws.{find_is, root_is}
+use Rattle.file_nodes.proofs.WalkLaws.{find_is, root_is}
 use Rattle.file_nodes.proofs.FileJoins.{node_joined, is_joined}
 use Rattle.file_nodes.proofs.Heights.{NotLarge, node_fault, walk_fault}
 use Rattle.file_nodes.proofs.WalkTables.{node_is}
@@ -59,7 +59,7 @@ module _ (objects : List StoredObject) (root : ExGuid) where
   place = place_of objects root
 
   abbrev of_root : FileObject → Option (List ℕ)
-  of_root o = cond (eqb (length o.references) 0) (Some []) (node_file (file_below (file_objects objects) 7) o)
+  of_root o = cond (eqb (length o.references) 0) (Some []) (node_file (file_below (stored_objects objects) 7) o)
 
   -- the file and the walk of a root that is there
   file_found : (o : StoredObject) → find_stored objects root ≡ Some o → stored_file objects root ≡ of_root (as_file_object o)
@@ -74,7 +74,7 @@ module _ (objects : List StoredObject) (root : ExGuid) where
   node_said : (o : StoredObject) → find_stored objects root ≡ Some o → slice_get objects place ≡ Some o → eqb (length o.references) 0 ≡ false → IsFileAnswer objects root (node_answer objects place o)
   node_said o e at some =
       let walked = walk_found o e ∙ ap (λ (b : Bool). cond b (Ok 0) (walk_node o)) some in
-      let file = file_found o e ∙ ap (λ (b : Bool). cond b (Some []) (node_file (file_below (file_objects objects) 7) (as_file_object o))) some in
+      let file = file_found o e ∙ ap (λ (b : Bool). cond b (Some []) (node_file (file_below (stored_objects objects) 7) (as_file_object o))) some in
       let agrees = subst (λ (w : Result ℕ NodeFault). Agrees (stored_file objects root) w) walked (root_is objects root) in
       subst (λ (w : Result ℕ NodeFault). IsFileAnswer objects root (answer_by w (joined_from objects place))) (sym (node_is objects (walk objects 7) (below_table objects) refl o some))
       (walked_said objects root (joined_from objects place) (stored_file objects root) (walk_node o) refl walked agrees (node_fault objects 7 (walk_fault objects 7) o)
@@ -85,7 +85,7 @@ module _ (objects : List StoredObject) (root : ExGuid) where
   root_said (Some o) e at =
       elim (cases_Bool (eqb (length o.references) 0)) [
         | inl y ↦
-            let file = file_found o e ∙ ap (λ (b : Bool). cond b (Some []) (node_file (file_below (file_objects objects) 7) (as_file_object o))) y in
+            let file = file_found o e ∙ ap (λ (b : Bool). cond b (Some []) (node_file (file_below (stored_objects objects) 7) (as_file_object o))) y in
             subst (λ (b : Bool). IsFileAnswer objects root (cond b (Ok []) (node_answer objects place o))) (sym y) (file, omega arith)
         | inr n ↦ subst (λ (b : Bool). IsFileAnswer objects root (cond b (Ok []) (node_answer objects place o))) (sym n) (node_said o e at n)
       ]

@@ -12,11 +12,11 @@ use Rattle.compact_values.specs.SameIds.{same_id}
 use Rattle.doc_model.specs.FileObjects.{FileObject, joined, of_node, node_file, file_below}
 use Rattle.doc_model.specs.Nodes.{node_size}
 use Rattle.file_nodes.specs.FileAnswers.{Agrees}
-use Rattle.file_nodes.specs.FileWalks.{as_file_object, file_objects, find_stored, arrived, arrive, walk}
+use Rattle.file_nodes.specs.FileWalks.{as_file_object, stored_objects, find_stored, arrived, arrive, walk}
 use Rattle.file_nodes.specs.Links.{place_of, link_of, has_bytes, filled, file_at, file_from, below_table}
 use Rattle.file_nodes.specs.declared.fault.NodeFault.{NodeFault}
 use Rattle.file_nodes.specs.declared.object_map.StoredObject.{StoredObject}
-use Rattle.file_nodes.proofs.FileLaws.{find_is, below_is}
+use Rattle.file_nodes.proofs.WalkLaws.{find_is, below_is}
 use Rattle.file_nodes.proofs.Heights.{grows_to}
 use Rattle.file_nodes.proofs.WalkTables.{entry_is}
 
@@ -53,7 +53,7 @@ module _ (objects : List StoredObject) where
   children = map (filled table) (map (link_of objects) objects)
 
   abbrev files : ℕ → ExGuid → Option (List ℕ)
-  files n = file_below (file_objects objects) n
+  files n = file_below (stored_objects objects) n
 
   -- what the table has for an id that has a file
   entry : (n : ℕ) → n ≤ 7 → (id : ExGuid) (file : List ℕ) → files n id ≡ Some file → slice_get table (place_of objects id) ≡ Some (Ok (length file))

@@ -2,7 +2,7 @@
 use Rattle.std.specs.Prelude.{◌≡◌, ℕ, ◌<◌, ◌≤◌, ◌⊎◌, List, length, Option, Some, None, Result, Ok, Err}
 use Rattle.compact_values.specs.declared.ids.ExGuid.{ExGuid}
 use Rattle.doc_model.specs.FileObjects.{root_file}
-use Rattle.file_nodes.specs.FileWalks.{file_objects, first_fault}
+use Rattle.file_nodes.specs.FileWalks.{stored_objects, first_fault}
 use Rattle.file_nodes.specs.declared.fault.NodeFault.{NodeFault}
 use Rattle.file_nodes.specs.declared.fault.NodeFault.TheVariants.{Absent, TooHigh, NotANode, SizeDiffers, TooLarge, NoMemory}
 use Rattle.file_nodes.specs.declared.object_map.StoredObject.{StoredObject}
@@ -13,7 +13,7 @@ largest_file = 16777216
 
 -- the file that a root stands for, where it is defined
 abbrev pub stored_file : List StoredObject → ExGuid → Option (List ℕ)
-stored_file objects root = root_file (file_objects objects) root
+stored_file objects root = root_file (stored_objects objects) root
 
 -- A file is defined exactly where a walk has no fault, and its length is the one that was found.
 abbrev pub Agrees : Option (List ℕ) → Result ℕ NodeFault → Type 0

@@ -12,8 +12,8 @@ use Rattle.file_nodes.specs.declared.object_map.StoredObject.{StoredObject}
 abbrev pub as_file_object : StoredObject → FileObject
 as_file_object o = record { id = o.id; references = o.references; bytes = Some o.bytes }
 
-abbrev pub file_objects : List StoredObject → List FileObject
-file_objects objects = map as_file_object objects
+abbrev pub stored_objects : List StoredObject → List FileObject
+stored_objects objects = map as_file_object objects
 
 -- the first object with this id
 abbrev pub find_stored : List StoredObject → ExGuid → Option StoredObject

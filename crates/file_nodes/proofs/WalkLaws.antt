@@ -8,22 +8,22 @@ use Rattle.compact_values.specs.declared.ids.ExGuid.{ExGuid}
 use Rattle.compact_values.specs.SameIds.{same_id}
 use Rattle.doc_model.specs.FileObjects.{FileObject, find_object, joined, of_node, node_file, file_below, root_file}
 use Rattle.doc_model.specs.Nodes.{node_size}
-use Rattle.file_nodes.specs.FileWalks.{as_file_object, file_objects, find_stored, together, total, arrived, arrive, judged, behind, walk, walk_from, walk_root}
+use Rattle.file_nodes.specs.FileWalks.{as_file_object, stored_objects, find_stored, together, total, arrived, arrive, judged, behind, walk, walk_from, walk_root}
 use Rattle.file_nodes.specs.FileAnswers.{Agrees}
 use Rattle.file_nodes.specs.declared.fault.NodeFault.{NodeFault}
 use Rattle.file_nodes.specs.declared.object_map.StoredObject.{StoredObject}
 
 -- ---- the first object with an id
 
-pub find_is : (objects : List StoredObject) (id : ExGuid) → find_object (file_objects objects) id ≡ option_map as_file_object (find_stored objects id)
+pub find_is : (objects : List StoredObject) (id : ExGuid) → find_object (stored_objects objects) id ≡ option_map as_file_object (find_stored objects id)
 find_is [] id = refl
 find_is (o ∷ os) id =
     elim (cases_Bool (same_id o.id id)) [
       | inl y ↦
-          ap (λ (b : Bool). cond b (Some (as_file_object o)) (find_object (file_objects os) id)) y
+          ap (λ (b : Bool). cond b (Some (as_file_object o)) (find_object (stored_objects os) id)) y
           ∙ sym (ap (λ (b : Bool). option_map as_file_object (cond b (Some o) (find_stored os id))) y)
       | inr n ↦
-          ap (λ (b : Bool). cond b (Some (as_file_object o)) (find_object (file_objects os) id)) n ∙ find_is os id
+          ap (λ (b : Bool). cond b (Some (as_file_object o)) (find_object (stored_objects os) id)) n ∙ find_is os id
           ∙ sym (ap (λ (b : Bool). option_map as_file_object (cond b (Some o) (find_stored os id))) n)
     ]
 
@@ -77,11 +77,11 @@ nowhere id (Some o) fault = tt
 
 module _ (objects : List StoredObject) where
   -- what is defined of a reference
-  pub below_is : (n : ℕ) (id : ExGuid) → Agrees (file_below (file_objects objects) n id) (arrive objects (walk objects n) id)
+  pub below_is : (n : ℕ) (id : ExGuid) → Agrees (file_below (stored_objects objects) n id) (arrive objects (walk objects n) id)
   unfolding file_below walk
   below_is zero id = nowhere id (find_stored objects id) _
   below_is (suc n) id =
-      let files = file_below (file_objects objects) n in
+      let files = file_below (stored_objects objects) n in
       let walks = arrive objects (walk objects n) in
       let f : FileObject → Option (List ℕ) = λ o. cond (eqb (length o.references) 0) o.bytes (node_file files o) in
       subst (λ (o : Option FileObject). Agrees (option_and_then f o) (arrive objects (walk objects (suc n)) id)) (sym (find_is objects id))
@@ -90,9 +90,9 @@ module _ (objects : List StoredObject) where
       refl (behind_is o (joined files o.references) (total (map walks o.references)) (all_agree files walks (below_is n) o.references)))
       (find_stored objects id))
 
-  pub root_is : (root : ExGuid) → Agrees (root_file (file_objects objects) root) (walk_root objects root)
+  pub root_is : (root : ExGuid) → Agrees (root_file (stored_objects objects) root) (walk_root objects root)
   root_is root =
-      let files = file_below (file_objects objects) 7 in
+      let files = file_below (stored_objects objects) 7 in
       let walks = arrive objects (walk objects 7) in
       let f : FileObject → Option (List ℕ) = λ o. cond (eqb (length o.references) 0) (Some []) (node_file files o) in
       subst (λ (o : Option FileObject). Agrees (option_and_then f o) (walk_root objects root)) (sym (find_is objects root))
