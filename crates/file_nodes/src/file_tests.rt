@@ -1,5 +1,6 @@
 use super::*;
 use compact_values::{ExGuid, Guid, Ids, Octets};
+use doc_model::{Body, Content};
 use std::alloc::Global;
 use std::test::Fail;
 
@@ -172,5 +173,36 @@ fn files_of_16_mib(rt: HostRuntime) -> Result<(), Fail> {
     assert_eq!(rt; file.len(), 16_777_216);
     let more = largest(alloc, &[4], 16_777_217).ok_or("memory")?;
     assert!(rt; file_of(alloc, &more, &id(1)).err() == Some(NodeFault::TooLarge));
+    Ok(())
+}
+
+/// The objects of a file that was cut.
+fn objects_of(alloc: Global, chunked: &Chunked) -> Option<ObjectMap> {
+    let mut map = ObjectMap::new(alloc);
+    for element in chunked.elements.as_slice() {
+        if let Body::Group { objects } = &element.body {
+            for object in objects.as_slice() {
+                if let Content::Inline { bytes } = &object.content {
+                    map.add(object.id, &object.references, bytes.as_slice())
+                        .ok()?;
+                }
+            }
+        }
+    }
+    Some(map)
+}
+
+/// The root of a file that is cut from 1 on has the value 7.
+#[test]
+fn cut_file_is_put_together(rt: HostRuntime) -> Result<(), Fail> {
+    let alloc = rt.alloc();
+    let mut bytes = vec![in alloc; 7_u8; 65_536]?;
+    bytes.extend_from_slice(b"end")?;
+    let chunked = chunk(alloc, bytes.as_slice(), Guid { number: 7 }, 1)?;
+    let objects = objects_of(alloc, &chunked).ok_or("memory")?;
+    let file = file_of(alloc, &objects, &id(7))
+        .ok()
+        .ok_or("the objects are a file")?;
+    assert!(rt; file.as_slice() == bytes.as_slice());
     Ok(())
 }
