@@ -5,3 +5,4 @@ mod Splits
 mod SubLaws
 mod RequestLaws
 mod OneAnswer
+mod RequestStands

@@ -1,5 +1,6 @@
 -- Bytes have one answer, where memory doesn't run out.
-use Rattle.std.proofs.Common.{◌≡◌, ◌≢◌, ◌⊎◌, ℕ, ◌<◌, ◌≤◌, List, length, Option, Some, None, Result, Ok, Err, inl, inr, refl, sym, ap, subst, arith}
+use Rattle.std.proofs.Common.{◌≡◌, ◌≢◌, ◌⊎◌, ℕ, ◌<◌, ◌≤◌, zero, suc, List, [], ◌∷◌, length, Option, Some, None, Result, Ok, Err, inl, inr, refl, sym, ap, subst, arith}
+use Rattle.std.specs.List.{AllByRecursion}
 use Rattle.compact_values.proofs.LittleEndian.{IsBytes}
 use Rattle.compact_values.proofs.Takes.{some_pair}
 use Rattle.stream_objects.specs.declared.tree.Tree.{Tree}
@@ -192,3 +193,8 @@ module _ (bytes : List ℕ) (fits : IsBytes bytes) where
   -- bytes are at most one request
   pub one_request : (x y : CellRequest) → IsRequest bytes x → IsRequest bytes y → x ≡ y
   one_request x y p q = both_say p.tree q.tree (framed x p) (framed y q) x y p.form q.form
+
+pub all_bytes : (bytes : List ℕ) → AllByRecursion (λ b. b < 256) bytes → IsBytes bytes
+all_bytes [] h i = omega arith
+all_bytes (b ∷ bytes) h zero = h.0
+all_bytes (b ∷ bytes) h (suc i) = all_bytes bytes h.1 i

@@ -7,11 +7,13 @@
 //! - `front`: the versions and the signature in front of a request
 //! - `fault`: why bytes are no request
 //! - `write`: writing a request, for clients
+//! - `laws`: what holds of requests themselves
 #![tactic(auto)]
 
 mod fault;
 mod fields;
 mod front;
+pub mod laws;
 mod request;
 mod subs;
 mod walk;
