@@ -168,9 +168,9 @@ module _ (input : List ℕ) (n : ℕ) where
             let first = first_of_query t q.tree w.tree e q.is.0 none w.is.0 in (
               k,
               (
-              q.tree,
-              ap (filter (is_kind 0x51)) e ∙ filter_two 0x51 (q.tree ∷ []) (w.tree ∷ []) (q.tree ∷ []) [] (filter_all 0x51 (q.tree ∷ []) (q.is.0, tt)) (filter_none 0x10 0x51 (w.tree ∷ []) (λ d. absurd (omega (arith, d))) (w.is.0, tt)),
-            ),
+                q.tree,
+                ap (filter (is_kind 0x51)) e ∙ filter_two 0x51 (q.tree ∷ []) (w.tree ∷ []) (q.tree ∷ []) [] (filter_all 0x51 (q.tree ∷ []) (q.is.0, tt)) (filter_none 0x10 0x51 (w.tree ∷ []) (λ d. absurd (omega (arith, d))) (w.is.0, tt)),
+              ),
               subst (λ (o : Option Tree). IsKnown input o knowledge) (sym first) w.is.1,
             );
         count_is = omega (arith, objects_two q.tree w.tree, q.count_is, w.count_is);

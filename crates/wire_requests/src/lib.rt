@@ -22,3 +22,6 @@ mod write;
 pub use fault::WireFault;
 pub use request::read_cell_request;
 pub use write::write_cell_request;
+
+#[cfg(test)]
+mod tests;

@@ -70,7 +70,13 @@ fn read_form(alloc: Global, bytes: &[u8], tree: &Tree) -> Result<CellRequest, Wi
         return Err(fault(tree));
     }
     match split(tree.children.as_slice()) {
-        Some((before, (package_object, behind))) => read_parts(alloc, bytes, before, package_object, behind),
+        Some((before, (package_object, behind))) => read_parts(
+            alloc,
+            bytes,
+            before,
+            package_object,
+            behind,
+        ),
         None => Err(fault(tree)),
     }
 }

@@ -149,10 +149,8 @@ fn is_put(what: &WireKind) -> bool
 {
     match what {
         WireKind::Put { .. } => true,
-        WireKind::Access
-        | WireKind::Pull { .. }
-        | WireKind::Draw { .. }
-        | WireKind::Unknown => false,
+        WireKind::Access | WireKind::Pull { .. } | WireKind::Draw { .. } | WireKind::Unknown =>
+            false,
     }
 }
 
