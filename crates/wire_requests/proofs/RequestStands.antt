@@ -1,5 +1,5 @@
 -- The written form of a request stands as a request.
-use Rattle.std.proofs.Common.{◌≡◌, ℕ, suc, ◌+◌, ◌^◌, ◌<◌, ◌≤◌, Bool, true, false, List, [], ◌∷◌, ◌++◌, length, map, sum, Option, Some, refl, sym, ap, subst, ◌∙◌, append_assoc, arith}
+use Rattle.std.proofs.Common.{◌≡◌, ℕ, suc, ◌+◌, ◌^◌, ◌<◌, Bool, true, false, List, [], ◌∷◌, ◌++◌, length, map, sum, Option, Some, refl, sym, ap, subst, ◌∙◌, append_assoc, arith}
 use Rattle.std.specs.Prelude.{filter, find, ◌==◌}
 use Rattle.std.specs.List.{flat_map, sum_by, AllByRecursion}
 use Rattle.std.proofs.lemmas.List.{append-nil, length-append}
@@ -8,17 +8,16 @@ use Rattle.compact_values.specs.Ids.{exguid, FitsExGuid, SpellsExGuid}
 use Rattle.compact_values.specs.Sequences.{◌▹◌, Begins, SpellsByte}
 use Rattle.compact_values.specs.declared.ids.ExGuid.{ExGuid}
 use Rattle.compact_values.specs.declared.ids.Serial.TheVariants as serials
-use Rattle.stream_objects.specs.Objects.{HasFields, One, Each, kind_of, is_kind}
-use Rattle.stream_objects.specs.Trees.{Consecutive, EndsBehind, IsObject, IsTreeAt, objects}
+use Rattle.stream_objects.specs.Objects.{HasFields, kind_of, is_kind}
+use Rattle.stream_objects.specs.Trees.{Consecutive, EndsBehind, IsObject, objects}
 use Rattle.stream_objects.specs.Written.{started, simple_object, compound_object}
 use Rattle.stream_objects.specs.declared.tree.Tree.{Tree}
 use Rattle.stream_objects.specs.declared.tree.Tree.TheViews.{out-Tree}
-use Rattle.stream_objects.proofs.Standing.{At, at_front, at_back, inside_at, Whole, Run, all_stand, leaf, branch, whole_map, objects-one, filter_all, filter_none, filter_two}
+use Rattle.stream_objects.proofs.Standing.{At, at_front, at_back, inside_at, Whole, all_stand, leaf, branch, whole_map, objects-one, filter_all, filter_none, filter_two}
 use Rattle.stream_objects.proofs.Unique.{objects-cons}
 use Rattle.doc_model.specs.ElementObjects.{IsNothing}
 use Rattle.doc_model.specs.Elements.{IsElement, IsPackage}
 use Rattle.doc_model.specs.Fronts.{HasVersions, HasSignature}
-use Rattle.doc_model.specs.Knowledges.{IsKnowledge}
 use Rattle.doc_model.specs.Walks.{walk}
 use Rattle.doc_model.specs.Requests.{PutFields, AllocateFields, first_knowledge, IsKnown, Holds, IsSub, SaysRequest, IsRequest}
 use Rattle.doc_model.specs.FittingElements.{FitsElement}
@@ -27,7 +26,6 @@ use Rattle.doc_model.specs.Weights.{objects_written}
 use Rattle.doc_model.specs.WrittenElements.{knowledge_bytes}
 use Rattle.doc_model.specs.WrittenRequests.{IsKindOf, query_bytes, put_bytes, allocate_bytes, held_bytes, sub_bytes, sent_bytes, sent_package_bytes, request_front, request_bytes}
 use Rattle.doc_model.specs.declared.element.Element.{Element}
-use Rattle.doc_model.specs.declared.knowledge.Knowledge.{Knowledge}
 use Rattle.doc_model.specs.declared.request.CellRequest.{CellRequest}
 use Rattle.doc_model.specs.declared.request.WireSub.{WireSub}
 use Rattle.doc_model.specs.declared.request.WireKind.{WireKind}
