@@ -198,3 +198,13 @@ pub all_bytes : (bytes : List ℕ) → AllByRecursion (λ b. b < 256) bytes → 
 all_bytes [] h i = omega arith
 all_bytes (b ∷ bytes) h zero = h.0
 all_bytes (b ∷ bytes) h (suc i) = all_bytes bytes h.1 i
+
+-- Where a fault other than want of memory is the only answer, the bytes are no request.
+pub no_request : (bytes : List ℕ) (fault : WireFault) → IsOnlyAnswer bytes (Err fault) → fault ≢ faults.NoMemory → (r : CellRequest) → IsRequest bytes r → ⊥
+no_request bytes fault only some r request = go (only (Ok r) request (λ e. absurd cc)) where
+  failed : WireFault → Result CellRequest WireFault
+  failed f = Err f
+
+  go : (failed fault ≡ failed faults.NoMemory) ⊎ (failed fault ≡ Ok r) → ⊥
+  go (inl e) = some cc
+  go (inr e) = cc
