@@ -13,3 +13,5 @@ pub mod Placed
 pub mod ItemReading
 pub mod Sequences
 pub mod Taking
+pub mod SameIds
+pub mod IdPlaces

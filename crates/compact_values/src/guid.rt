@@ -2,6 +2,7 @@
 ghost use Rattle.std.specs.Prelude.{◌≡◌, length, IfOk, Some};
 ghost use Rattle.compact_values.specs.GuidBytes.{guid_bytes, guid_number};
 ghost use Rattle.compact_values.specs.GuidText.{guid_in_text, text_of_guid};
+ghost use Rattle.compact_values.specs.SameIds.{same_guid};
 
 use crate::fault::NoMemory;
 use crate::text::Text;
@@ -12,6 +13,15 @@ use uuid::Uuid;
 #[derive(Clone, Copy, Debug, PartialEq, Eq)]
 pub struct Guid {
     pub number: u128,
+}
+
+impl Guid {
+    /// Whether it is the same GUID.
+    pub fn is(self, other: Guid) -> bool
+        ensures { result ≡ same_guid self other }
+    {
+        self.number == other.number
+    }
 }
 
 /// The 16 bytes of a GUID: the first field's 4 bytes, the second's 2 and the third's 2, each least byte first, then the

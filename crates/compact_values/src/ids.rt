@@ -1,4 +1,7 @@
 // What is named by GUIDs: extended GUIDs, serial numbers, cell ids, and their lists.
+ghost use Rattle.std.specs.Prelude.{◌≡◌};
+ghost use Rattle.compact_values.specs.SameIds.{same_id, same_cell};
+
 use crate::fault::NoMemory;
 use crate::guid::Guid;
 use crate::seq::{Copied, Same, Seq};
@@ -30,6 +33,33 @@ pub type Ids = Seq<ExGuid>;
 
 /// A list of cell ids.
 pub type CellIds = Seq<CellId>;
+
+impl ExGuid {
+    /// Whether it is the same extended GUID.
+    pub fn is(self, other: ExGuid) -> bool
+        ensures { result ≡ same_id self other }
+    {
+        match self {
+            ExGuid::Null => match other {
+                ExGuid::Null => true,
+                ExGuid::Id { .. } => false,
+            },
+            ExGuid::Id { guid, value } => match other {
+                ExGuid::Null => false,
+                ExGuid::Id { guid: g, value: v } => guid.is(g) && value == v,
+            },
+        }
+    }
+}
+
+impl CellId {
+    /// Whether it is the same cell id.
+    pub fn is(self, other: CellId) -> bool
+        ensures { result ≡ same_cell self other }
+    {
+        self.first.is(other.first) && self.second.is(other.second)
+    }
+}
 
 impl Same for ExGuid {
     fn same(&self, other: &ExGuid) -> bool {

@@ -155,7 +155,7 @@ module _ (input : List ℕ) (fits : IsBytes input) where
         let o = only_of input fits 0x02 blob_row (BlobContent input) t c one (blob_again input fits) s.values (subst (λ (l : List Tree). Each (BlobContent input) l s.values) one s.each) in
         (Blob o.0, rw o.2 refl, (refl, o.1)))
 
-  judges_body : (t : Tree) (id : ExGuid) (serial : Serial) (kind : ℕ) → ElementFields input t id serial kind → JudgesBody input fits t kind (body_at input kind t)
+  pub judges_body : (t : Tree) (id : ExGuid) (serial : Serial) (kind : ℕ) → ElementFields input t id serial kind → JudgesBody input fits t kind (body_at input kind t)
   unfolding body_at
   judges_body t id serial kind has =
       elim (eqb_tells kind 1) [
@@ -243,7 +243,7 @@ module _ (input : List ℕ) (fits : IsBytes input) where
 
   -- ---- what is in form is read
 
-  again_body : (t : Tree) (kind : ℕ) (body : Body) → SaysBody input t kind body → body_at input kind t ≡ Ok body
+  pub again_body : (t : Tree) (kind : ℕ) (body : Body) → SaysBody input t kind body → body_at input kind t ≡ Ok body
   unfolding body_at index_at storage_at cell_at revision_at blob_at
   again_body t kind (Index m c r) s =
       let cs = (out-Tree t).children in

@@ -11,6 +11,7 @@ pub mod CheckLaws
 pub mod Links
 pub mod GroupLaws
 pub mod ElementLaws
+pub mod NumberedLaws
 pub mod PackageAnswer
 pub mod KnowledgeLaws
 pub mod KnowledgeAnswer

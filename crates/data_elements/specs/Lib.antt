@@ -5,3 +5,4 @@ pub mod GroupReading
 pub mod Reading
 pub mod KnowledgeReading
 pub mod Answers
+pub mod NumberedReading

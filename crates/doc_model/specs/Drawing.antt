@@ -1,20 +1,9 @@
 -- Drawing numbers of extended GUIDs: the numbers that a document hands out are those behind the ones already drawn.
-use Rattle.std.specs.Prelude.{ℕ, ◌+◌, ◌-◌, ◌^◌, Bool, true, false, ◌&&◌, nat_le, if◌then◌else◌}
-use Rattle.compact_values.specs.declared.guid.Guid.{Guid}
+use Rattle.std.specs.Prelude.{ℕ, ◌+◌, ◌-◌, ◌^◌, Bool, true, ◌&&◌, nat_le, if◌then◌else◌}
 use Rattle.doc_model.specs.declared.doc.Doc.{Doc}
-use Rattle.doc_model.specs.declared.reply.Reply.{Reply}
-use Rattle.doc_model.specs.declared.reply.Reply.TheVariants.{Drawn, Refused}
+use Rattle.doc_model.specs.declared.reply.Reply.TheVariants.{Drawn}
 use Rattle.doc_model.specs.declared.reply.Code.TheVariants.{NotSupported}
-
--- a document without anything
-abbrev pub empty_doc : Guid → Doc
-empty_doc guid = record { guid = guid; drawn = 0 }
-
--- what a call does: the document afterwards, the reply, and whether the document changed
-pub record Turn : Type 0 where
-  pub doc : Doc
-  pub reply : Reply
-  pub moved : Bool
+use Rattle.doc_model.specs.Turns.{Turn, refused}
 
 -- the last number that may be drawn
 abbrev pub last_number : ℕ
@@ -32,4 +21,4 @@ draw doc count =
       reply = Drawn doc.guid (doc.drawn + 1) (doc.drawn + count);
       moved = true;
     }
-    else record { doc = doc; reply = Refused NotSupported; moved = false }
+    else refused doc NotSupported

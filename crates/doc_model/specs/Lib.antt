@@ -1,3 +1,5 @@
+pub mod Limits
+pub mod Turns
 pub mod Drawing
 pub mod Fronts
 pub mod Walks
@@ -15,3 +17,21 @@ pub mod Elements
 pub mod ElementParts
 pub mod Knowledges
 pub mod KnowledgeParts
+pub mod Finding
+pub mod Contents
+pub mod Reached
+pub mod Nodes
+pub mod FileObjects
+pub mod Files
+pub mod Pulls
+pub mod Locks
+pub mod LockSteps
+pub mod Locking
+pub mod Sound
+pub mod Puts
+pub mod Apply
+pub mod NumberedElements
+pub mod SeenResponses
+pub mod ResponseParts
+pub mod Laws
+pub mod LockLaws

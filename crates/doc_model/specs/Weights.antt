@@ -12,6 +12,9 @@ use Rattle.doc_model.specs.declared.element.NumberedElement.{NumberedElement}
 unfoldable pub weight : Element → ℕ
 weight e = length (element_bytes e serials.Null)
 
+abbrev pub weight_of : List Element → ℕ
+weight_of es = sum_by weight es
+
 -- how many stream objects are written in an element, and for the element itself
 abbrev pub objects_in : Body → ℕ
 objects_in (Index manifests cells revisions) = length manifests + length cells + length revisions

@@ -16,6 +16,9 @@ pub type Elements = Seq<Element>;
 
 pub type Numbered = Seq<NumberedElement>;
 
+/// Names in the order of naming.
+pub type Namings = Seq<Name>;
+
 /// A data element (MS-FSSHTTPB 2.2.1.12): its id and what it says.
 #[derive(Debug, Drop, PartialEq, Eq)]
 pub struct Element {
@@ -119,4 +122,11 @@ pub enum Content {
 pub struct NumberedElement {
     pub serial: u64,
     pub element: Element,
+}
+
+/// An element that is named, and whether it is there and of the kind that its place needs.
+#[derive(Clone, Copy, Debug, PartialEq, Eq)]
+pub struct Name {
+    pub id: ExGuid,
+    pub found: bool,
 }

@@ -2,32 +2,53 @@
 //!
 //! The definitions stand in `specs/`; every crate above proves its code against them.
 //!
-//! - `doc`: the document
+//! - `doc`: the document, its versions and its incomplete uploads
 //! - `element`: data elements and the objects in them
 //! - `knowledge`: which elements a client knows
+//! - `lock`: the lock of a document, and its steps
+//! - `editor`: the editors of a document, and their steps
+//! - `call`: what a call asks of a document
+//! - `core_trait`: a document, however it is kept
+//! - `copied`, `same`: copies of plain data, and exact comparison
+//! - `laws`, `lock_laws`: what holds of the definitions themselves
 //! - `request`: what a request asks for
 //! - `sizes`: how many bytes the values of a written element take
 //! - `weighing`: how many bytes a written element takes
 //! - `reply`: what became of a call
+//! - `response`: what a client reads of a response
 #![tactic(auto)]
 
+mod call;
+mod copied;
+mod core_trait;
 mod doc;
+mod editor;
 mod element;
 mod knowledge;
+pub mod laws;
+mod lock;
+pub mod lock_laws;
 mod reply;
 mod request;
+mod response;
+mod same;
 mod sizes;
 mod weighing;
 
-pub use doc::Doc;
+pub use call::{Call, Put, Sub};
+pub use core_trait::{Core, Plan};
+pub use doc::{Commit, Commits, Doc, Part, Parts};
+pub use editor::{Editor, EditorStep, Editors, Entries, Entry};
 pub use element::{
-    Body, CellMap, CellMaps, Content, Element, Elements, ManifestMap, ManifestMaps, Numbered,
-    NumberedElement, Object, Objects, RevisionMap, RevisionMaps, RevisionRoot, RevisionRoots, Root,
-    Roots,
+    Body, CellMap, CellMaps, Content, Element, Elements, ManifestMap, ManifestMaps, Name, Namings,
+    Numbered, NumberedElement, Object, Objects, RevisionMap, RevisionMaps, RevisionRoot,
+    RevisionRoots, Root, Roots,
 };
 pub use knowledge::{Knowledge, Range, Ranges};
+pub use lock::{Coauthors, LockKind, LockRecord, LockStep, Member, Members};
 pub use reply::{Answer, Answers, Code, Reply, Submitted};
 pub use request::{CellRequest, WireKind, WireSub, WireSubs};
+pub use response::{CellResponse, ReplyForm, Seen, Seens};
 pub use sizes::{
     cell_id_size, cells_size, compact_size, data_size, declaration_size, exguid_size, ids_size,
     item_size, serial_size, size_if_any_size, started_size,

@@ -1,7 +1,11 @@
-use compact_values::{Guid, Seq};
+use crate::doc::Commits;
+use crate::element::Numbered;
+use crate::knowledge::Knowledge;
+use crate::lock::{Coauthors, LockKind};
+use compact_values::{ExGuid, Guid, Octets, Seq, Text};
 
 /// What became of a sub-request: its id and kind, and what its call was answered.
-#[derive(Clone, Copy, Debug, PartialEq, Eq)]
+#[derive(Debug, Drop, PartialEq, Eq)]
 pub struct Answer {
     pub id: u64,
     pub kind: u64,
@@ -12,7 +16,7 @@ pub struct Answer {
 pub type Answers = Seq<Answer>;
 
 /// What became of a call. After each of the last three the document is as it was before.
-#[derive(Clone, Copy, Debug, PartialEq, Eq)]
+#[derive(Debug, Drop, PartialEq, Eq)]
 pub enum Submitted {
     /// The call was done, or refused by the rules of the document.
     Answered { reply: Reply },
@@ -25,13 +29,51 @@ pub enum Submitted {
 }
 
 /// The reply of a document.
-#[derive(Clone, Copy, Debug, PartialEq, Eq)]
+#[derive(Debug, Drop, PartialEq, Eq)]
 pub enum Reply {
+    /// What was asked is done.
+    Done,
+    /// The caller may read and write.
+    Access,
+    /// The stored index, the elements that the caller lacks, in order of their serial numbers of `guid`, and what it knows
+    /// with them.
+    Pulled {
+        guid: Guid,
+        index: ExGuid,
+        elements: Numbered,
+        knowledge: Knowledge,
+    },
+    /// What was put is kept; the knowledge has the serial numbers of its elements.
+    Stored {
+        knowledge: Knowledge,
+    },
     /// The numbers `least` to `greatest`, both of them too, of the document's GUID are the caller's.
     Drawn {
         guid: Guid,
         least: u64,
         greatest: u64,
+    },
+    /// What the lock is now, and how many of those who share it are coauthors.
+    Locked {
+        guid: Guid,
+        kind: LockKind,
+        status: Coauthors,
+    },
+    /// The versions.
+    VersionList {
+        commits: Commits,
+    },
+    /// The file.
+    File {
+        bytes: Octets,
+    },
+    /// Whether nobody else edits the document.
+    Lone {
+        alone: bool,
+    },
+    /// The caller's user.
+    Me {
+        user: Text,
     },
     /// The rules of the document refuse the call.
     Refused {
@@ -39,7 +81,8 @@ pub enum Reply {
     },
 }
 
-/// Why a call was refused. Each has a number in the cell error of a response (MS-FSSHTTPB 2.2.3.2).
+/// Why a call was refused. Those that a binary sub-request can meet have a number in the cell error of a response
+/// (MS-FSSHTTPB 2.2.3.2).
 #[derive(Clone, Copy, Debug, PartialEq, Eq)]
 pub enum Code {
     /// An object may not be stored as it was sent: 2.
@@ -56,4 +99,24 @@ pub enum Code {
     Unserializable,
     /// A live lock forbids the call: 1001.
     AlreadyLocked,
+    /// There is no lock that the step speaks of.
+    NotLocked,
+    /// The lock is shared by as many clients as may share it.
+    TooManyCoauthors,
+    /// Other clients share the lock.
+    ManyClients,
+    /// Other clients share the lock, and the caller has left it.
+    LeftOnFailedConversion,
+    /// As many clients edit the document as may.
+    EditorsFull,
+    /// The client doesn't edit the document.
+    EditorUnknown,
+    /// The editor has as many keys as it may have.
+    MetadataFull,
+    /// The key or the value is too long.
+    MetadataLong,
+    /// There is no such version.
+    VersionUnknown,
+    /// All numbers of extended GUIDs were handed out.
+    NoNumbers,
 }

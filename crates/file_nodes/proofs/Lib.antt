@@ -1,0 +1,6 @@
+pub mod PieceLaws
+pub mod PartLaws
+pub mod FindLaws
+pub mod FileLaw
+pub mod ChunkedFile
+pub mod References

@@ -1,0 +1,3 @@
+pub mod Pieces
+pub mod Chunking
+pub mod Chunks

@@ -1,0 +1,5 @@
+pub mod Judging
+pub mod ReplyLaws
+pub mod SubLaws
+pub mod ResponseLaws
+pub mod OneAnswer

@@ -1,2 +1,24 @@
 //! Binary responses (MS-FSSHTTPB 2.2.3), written and read.
+//!
+//! - `front`: the bytes in front of a response
+//! - `rows`: the fields of the objects of a response
+//! - `reply`: what a sub-response holds
+//! - `sub_response`: reading a sub-response
+//! - `read`: reading a response
+//! - `write_reply`: writing what a sub-response holds
+//! - `write`: writing a response
 #![tactic(auto)]
+
+mod front;
+mod read;
+mod reply;
+mod rows;
+mod sub_response;
+mod write;
+mod write_reply;
+
+pub use read::read_cell_response;
+pub use write::{write_cell_failure, write_cell_response};
+
+#[cfg(test)]
+mod tests;

@@ -1,0 +1,38 @@
+-- What a call does with a document, and what a list of calls does.
+use Rattle.std.specs.Prelude.{◌≡◌, ℕ, List, [], fold, Option, Some}
+use Rattle.compact_values.specs.declared.guid.Guid.{Guid}
+use Rattle.doc_model.specs.declared.call.Call.{Call}
+use Rattle.doc_model.specs.declared.call.Sub.{Sub}
+use Rattle.doc_model.specs.declared.call.Sub.TheVariants.{Access, Pull, Put, Draw}
+use Rattle.doc_model.specs.declared.core_trait.Plan.{Plan}
+use Rattle.doc_model.specs.declared.doc.Doc.{Doc}
+use Rattle.doc_model.specs.declared.lock.LockRecord.TheVariants.{Free}
+use Rattle.doc_model.specs.declared.reply.Reply.TheVariants as reply
+use Rattle.doc_model.specs.Drawing.{draw}
+use Rattle.doc_model.specs.Pulls.{pull}
+use Rattle.doc_model.specs.Puts.{put}
+use Rattle.doc_model.specs.Turns.{Turn, reading}
+
+-- a document without anything
+abbrev pub empty_doc : Guid → Doc
+empty_doc guid = record { guid = guid; added = []; commits = []; lock = Free; editors = []; parts = []; drawn = 0 }
+
+-- by what is asked, at a moment, by a user
+abbrev pub by_kind : Doc → ℕ → List ℕ → Sub → Turn
+by_kind doc moment user Access = reading doc reply.Access
+by_kind doc moment user (Pull knowledge) = reading doc (pull doc knowledge.ranges)
+by_kind doc moment user (Put p) = put doc moment user p
+by_kind doc moment user (Draw count) = draw doc count
+
+abbrev pub apply : Doc → Call → Turn
+apply doc call = by_kind doc call.moment call.user call.sub
+
+-- the document after these calls, in order, each with its caller's number
+abbrev pub replay : Doc → List (ℕ × Call) → Doc
+replay doc calls = fold (λ d item. (apply d item.1).doc) doc calls
+
+-- the plan says what the turn is, and leads to its document
+pub record IsPlanned {F : Type 0} (turn : Turn) (plan : Plan F) (leads_to : Option Doc) : Type 0 where
+  pub moved : plan.moved ≡ turn.moved
+  pub reply : plan.reply ≡ turn.reply
+  pub doc : leads_to ≡ Some turn.doc

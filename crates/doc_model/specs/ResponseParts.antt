@@ -1,0 +1,125 @@
+-- The objects of a response that have a place in it, in reading order, and the form that each has for itself: whether an
+-- object is in its own form doesn't depend on the forms of its children, only on which of them are there.
+use Rattle.std.specs.Prelude.{◌≡◌, ℕ, Bool, true, false, List, [], ◌∷◌, ◌++◌, map, Option, Some, None, option_and_then, if◌then◌else◌}
+use Rattle.std.specs.List.{flat_map}
+use Rattle.compact_values.specs.Sequences.{SpellsByte}
+use Rattle.compact_values.specs.Taking.{take_compact, take_byte, take_both, if_all}
+use Rattle.compact_values.specs.declared.guid.Guid.{Guid}
+use Rattle.compact_values.specs.declared.ids.ExGuid.{ExGuid}
+use Rattle.stream_objects.specs.declared.tree.Tree.{Tree}
+use Rattle.stream_objects.specs.declared.tree.Tree.TheViews.{out-Tree}
+use Rattle.stream_objects.specs.Objects.{HasFields, HasOne, kind_of, is_kind, start_of, children_of}
+use Rattle.stream_objects.specs.ObjectFields.{compound_fields}
+use Rattle.doc_model.specs.ElementObjects.{NoFields}
+use Rattle.doc_model.specs.ElementParts as elements
+use Rattle.doc_model.specs.KnowledgeParts as knowledges
+use Rattle.doc_model.specs.NumberedElements as numbered
+use Rattle.doc_model.specs.SeenResponses.{cell_error, hresult_error, ErrorNumber, ErrorFields, QueryAnswer, AllocateAnswer, SubResponseFields, reply_form}
+use Rattle.doc_model.specs.declared.response.ReplyForm.{ReplyForm}
+use Rattle.doc_model.specs.declared.response.ReplyForm.TheVariants.{Failed, Access, Pulled, Stored, Drawn}
+
+-- a 62, a part of its package, a 41; in a failed 41 a 4D and a 66; in an answer of access a 43 or 46, a 4D and a 52; a 5F, a part
+-- of knowledge, an 81
+pub data Part : Type 0 where
+  response : Tree → Part
+  packed : elements.Part → Part
+  sub_response : Tree → Part
+  failure : Tree → Part
+  failure_number : Tree → Part
+  access : Tree → Part
+  success : Tree → Part
+  success_number : Tree → Part
+  query : Tree → Part
+  known : knowledges.Part → Part
+  allocate : Tree → Part
+
+-- what a sub-response of this form holds
+abbrev pub HasPlaces : ReplyForm → Tree → Type 0
+HasPlaces Failed t = HasOne 0x4D t
+HasPlaces Access t = HasOne 0x43 t × HasOne 0x46 t
+HasPlaces Pulled t = HasOne 0x5F t × HasOne 0x10 t
+HasPlaces Stored t = HasOne 0x10 t
+HasPlaces Drawn t = HasOne 0x81 t
+
+-- The object is in its form, whatever its children are for themselves.
+abbrev pub InOwnForm : List ℕ → Part → Type 0
+InOwnForm input (response t) = (kind_of t ≡ 0x62) × HasFields true SpellsByte input t 0 × HasOne 0x15 t
+InOwnForm input (packed p) = numbered.InOwnForm input p
+InOwnForm input (sub_response t) = (id : ℕ) × (kind : ℕ) × (status : ℕ) × SubResponseFields input t id kind status × (form : ReplyForm) × (reply_form kind status ≡ Some form) × HasPlaces form t
+InOwnForm input (failure t) = ErrorFields input t cell_error × HasOne 0x66 t
+InOwnForm input (failure_number t) = (number : ℕ) × ErrorNumber input t number
+InOwnForm input (access t) = NoFields input t × HasOne 0x4D t
+InOwnForm input (success t) = ErrorFields input t hresult_error × HasOne 0x52 t
+InOwnForm input (success_number t) = ErrorNumber input t 0
+InOwnForm input (query t) = (index : ExGuid) × QueryAnswer input t index
+InOwnForm input (known p) = knowledges.InOwnForm input p
+InOwnForm input (allocate t) = (numbers : Guid × (ℕ × ℕ)) × AllocateAnswer input t numbers
+
+-- where its fields start
+abbrev pub part_start : Part → ℕ
+part_start (response t) = start_of t
+part_start (packed p) = elements.part_start p
+part_start (sub_response t) = start_of t
+part_start (failure t) = start_of t
+part_start (failure_number t) = start_of t
+part_start (access t) = start_of t
+part_start (success t) = start_of t
+part_start (success_number t) = start_of t
+part_start (query t) = start_of t
+part_start (known p) = knowledges.part_start p
+part_start (allocate t) = start_of t
+
+-- ---- reading order
+
+abbrev pub failure_parts : Tree → List Part
+failure_parts t = failure t ∷ flat_map (λ c. failure_number c ∷ []) (children_of 0x66 t)
+
+abbrev pub success_parts : Tree → List Part
+success_parts t = success t ∷ flat_map (λ c. success_number c ∷ []) (children_of 0x52 t)
+
+abbrev pub access_parts : Tree → List Part
+access_parts t = access t ∷ flat_map success_parts (children_of 0x4D t)
+
+abbrev pub known_parts : List ℕ → Tree → List Part
+known_parts input t = map known (knowledges.knowledge_parts input t)
+
+-- whether an object of the one type stands before those of the other
+abbrev pub comes_first : ℕ → ℕ → List Tree → Bool
+comes_first one other [] = true
+comes_first one other (t ∷ ts) = if is_kind one t then true else if is_kind other t then false else comes_first one other ts
+
+-- the parts of two children, in the order in which these stand
+abbrev pub in_order : Bool → List Part → List Part → List Part
+in_order first one other = if first then one ++ other else other ++ one
+
+abbrev pub reply_parts : List ℕ → Tree → ReplyForm → List Part
+reply_parts input t Failed = flat_map failure_parts (children_of 0x4D t)
+reply_parts input t Access = in_order (comes_first 0x43 0x46 (out-Tree t).children) (flat_map access_parts (children_of 0x43 t)) (flat_map access_parts (children_of 0x46 t))
+reply_parts input t Pulled = in_order (comes_first 0x5F 0x10 (out-Tree t).children) (flat_map (λ c. query c ∷ []) (children_of 0x5F t)) (flat_map (known_parts input) (children_of 0x10 t))
+reply_parts input t Stored = flat_map (known_parts input) (children_of 0x10 t)
+reply_parts input t Drawn = flat_map (λ c. allocate c ∷ []) (children_of 0x81 t)
+
+-- the fields of a sub-response, where it has them
+abbrev pub sub_row : List ℕ → Tree → Option (ℕ × (ℕ × ℕ))
+sub_row input t = option_and_then (λ b. if_all (take_both take_compact (take_both take_compact take_byte) b)) (compound_fields input t)
+
+-- Where a sub-response has its fields, they tell which of its children have a place.
+abbrev pub parts_by : List ℕ → Tree → Option ReplyForm → List Part
+parts_by input t (Some form) = reply_parts input t form
+parts_by input t None = []
+
+abbrev pub parts_behind : List ℕ → Tree → Option (ℕ × (ℕ × ℕ)) → List Part
+parts_behind input t (Some fields) = parts_by input t (reply_form fields.1.0 fields.1.1)
+parts_behind input t None = []
+
+abbrev pub sub_parts : List ℕ → Tree → List Part
+sub_parts input t = sub_response t ∷ parts_behind input t (sub_row input t)
+
+abbrev pub child_parts : List ℕ → Tree → List Part
+child_parts input t =
+    if is_kind 0x41 t then sub_parts input t
+    else if is_kind 0x15 t then map packed (elements.package_parts input t)
+    else []
+
+abbrev pub response_parts : List ℕ → Tree → List Part
+response_parts input t = response t ∷ flat_map (child_parts input) (out-Tree t).children

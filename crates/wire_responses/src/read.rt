@@ -1,0 +1,149 @@
+// Reading a response.
+ghost use Rattle.std.specs.Prelude.{◌≡◌};
+ghost use Rattle.doc_model.specs.SeenResponses.{HasVersions, HasSignature};
+ghost use Rattle.wire_responses.specs.ResponseAnswers.{IsAnswer, IsOnlyAnswer, GivesIn, GivesResponse, GivesFew};
+ghost use Rattle.data_elements.specs.Rows.{package_row};
+ghost use Rattle.wire_responses.specs.ResponseReading.{child_at, children_at, is_zero, response_at};
+
+use crate::front::{has_signature, has_versions};
+use crate::reply::fault;
+use crate::rows::byte_row;
+use crate::sub_response::read_sub_response;
+use compact_values::{NoMemory, Seq};
+use data_elements::{ElementFault, WireFault, read_numbered};
+use doc_model::CellResponse;
+use std::alloc::Global;
+use stream_objects::{Tree, TreeFault, only_child, read_tree};
+
+/// How many elements a response may have.
+const MOST_ELEMENTS: usize = 8192;
+
+// A child of a response, behind what was read before.
+#[tactic(auto, unfolding(crate::specs::ResponseReading::child_at))]
+fn read_child(
+    alloc: Global,
+    bytes: &[u8],
+    response: &mut CellResponse,
+    tree: &Tree,
+) -> Result<(), ElementFault>
+    ensures { GivesIn result response.new (child_at bytes.now response.old tree.now) }
+{
+    if tree.kind == 0x41 {
+        let seen = read_sub_response(alloc, bytes, tree)?;
+        match response.answers.push(seen) {
+            Ok(()) => Ok(()),
+            Err(NoMemory) => Err(ElementFault::NoMemory),
+        }
+    } else if tree.kind == 0x15 {
+        read_numbered(alloc, bytes, &mut response.elements, tree)
+    } else {
+        Ok(())
+    }
+}
+
+// The children of a response, in order.
+fn read_children(
+    alloc: Global,
+    bytes: &[u8],
+    response: &mut CellResponse,
+    trees: &[Tree],
+) -> Result<(), ElementFault>
+    ensures { GivesIn result response.new (children_at bytes.now trees.now response.old) }
+{
+    for tree in trees {
+        read_child(alloc, bytes, response, tree)?;
+    }
+    Ok(())
+}
+
+// Whether the only field of a response is the byte 0.
+fn has_zero_byte(bytes: &[u8], tree: &Tree) -> bool
+    ensures { result ≡ is_zero (package_row bytes.now tree.now) }
+{
+    match byte_row(bytes, tree) {
+        Some(byte) => byte == 0,
+        None => false,
+    }
+}
+
+// The response that a tree is.
+#[tactic(auto, unfolding(crate::specs::ResponseReading::response_at))]
+fn read_tree_form(alloc: Global, bytes: &[u8], tree: &Tree) -> Result<CellResponse, ElementFault>
+    ensures { GivesResponse result (response_at bytes.now tree.now) }
+{
+    if tree.kind == 0x62 && has_zero_byte(bytes, tree) && only_child(tree, 0x15).is_some() {
+        let mut response = CellResponse {
+            answers: Seq::new(alloc),
+            elements: Seq::new(alloc),
+        };
+        read_children(alloc, bytes, &mut response, tree.children.as_slice())?;
+        Ok(response)
+    } else {
+        Err(fault(tree))
+    }
+}
+
+// The response that a tree is, if it hasn't too many elements.
+fn read_form(alloc: Global, bytes: &[u8], tree: &Tree) -> Result<CellResponse, WireFault>
+    ensures { GivesFew result (response_at bytes.now tree.now) }
+{
+    match read_tree_form(alloc, bytes, tree) {
+        Ok(response) => {
+            if response.elements.len() > MOST_ELEMENTS {
+                return Err(WireFault::TooMany);
+            }
+            Ok(response)
+        }
+        Err(ElementFault::SchemaFault { place }) => Err(WireFault::SchemaFault { place }),
+        Err(_) => Err(WireFault::NoMemory),
+    }
+}
+
+// What follows the front.
+fn read_behind(alloc: Global, bytes: &[u8]) -> Result<CellResponse, WireFault>
+    requires versions { HasVersions bytes.now }
+    requires signature { HasSignature bytes.now }
+    ensures { IsAnswer bytes.now result }
+{
+    match read_tree(alloc, bytes, 12) {
+        Ok((tree, next)) => {
+            if next < bytes.len() {
+                Err(WireFault::Extra { place: next })
+            } else {
+                read_form(alloc, bytes, &tree)
+            }
+        }
+        Err(TreeFault::NoMemory) => Err(WireFault::NoMemory),
+        Err(fault) => Err(WireFault::TreeFault { fault }),
+    }
+}
+
+// The response that the bytes are read as, or why they are none.
+fn find_response(alloc: Global, bytes: &[u8]) -> Result<CellResponse, WireFault>
+    ensures { IsAnswer bytes.now result }
+{
+    if !has_versions(bytes) {
+        return Err(WireFault::BadFront);
+    }
+    if !has_signature(bytes) {
+        return Err(WireFault::BadSignature);
+    }
+    read_behind(alloc, bytes)
+}
+
+/// Reads a response (MS-FSSHTTPB 2.2.3): what its sub-responses say, in order, and the data elements that came with it, with
+/// the values of their serial numbers.
+///
+/// `BadFront` exactly where there are fewer than 12 bytes or the first 4 are others; else `BadSignature` exactly where the
+/// next 8 are; else `TreeFault` exactly where no tree follows; else `Extra` exactly where something follows it; else
+/// `SchemaFault` exactly where an object isn't in its form, with the place where its fields start, for the first such object
+/// in reading order; else `TooMany` exactly where there are more than 8,192 elements. `NoMemory` may come in place of any
+/// answer. A response that says that the whole request failed is in no form here.
+pub fn read_cell_response(alloc: Global, bytes: &[u8]) -> Result<CellResponse, WireFault>
+    // It is the response that the bytes are read as, or the refusal with its cause.
+    ensures answer { IsAnswer bytes.now result }
+    // There is no other answer, unless memory runs out.
+    ensures only { IsOnlyAnswer bytes.now result }
+{
+    find_response(alloc, bytes)
+}

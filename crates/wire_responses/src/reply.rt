@@ -1,0 +1,124 @@
+// What a sub-response holds.
+ghost use Rattle.std.specs.Prelude.{◌≡◌};
+ghost use Rattle.stream_objects.specs.Objects.{start_of};
+ghost use Rattle.data_elements.specs.Answers.{Gives};
+ghost use Rattle.wire_responses.specs.ResponseReading.{number_at, zero_at, failure_at, success_at, access_at, query_at, allocate_at, known_at};
+
+use crate::rows::{allocate_row, guid_row, has_no_fields, number_row, query_row};
+use compact_values::{ExGuid, Guid};
+use data_elements::{ElementFault, read_knowledge};
+use doc_model::Knowledge;
+use std::alloc::Global;
+use stream_objects::{Tree, only_child};
+
+/// The GUID of cell errors, 5a66a756-87ce-4290-a38b-c61c5ba05a67.
+const CELL_ERROR: u128 = 0x5a66_a756_87ce_4290_a38b_c61c_5ba0_5a67;
+
+/// The GUID of HRESULT errors, 8454c8f2-e401-405a-a198-a10b6991b56e.
+const HRESULT_ERROR: u128 = 0x8454_c8f2_e401_405a_a198_a10b_6991_b56e;
+
+/// The object isn't in its form.
+pub fn fault(tree: &Tree) -> ElementFault
+    ensures { result ≡ ElementFault.SchemaFault (start_of tree.now) }
+{
+    ElementFault::SchemaFault {
+        place: tree.fields.from,
+    }
+}
+
+// The number of an error.
+fn read_number(bytes: &[u8], tree: &Tree) -> Result<u32, ElementFault>
+    ensures { Gives result (number_at bytes.now tree.now) }
+{
+    match number_row(bytes, tree) {
+        Some(number) => Ok(number),
+        None => Err(fault(tree)),
+    }
+}
+
+// Whether the number of an error is 0.
+fn check_zero(bytes: &[u8], tree: &Tree) -> Result<(), ElementFault>
+    ensures { Gives result (zero_at bytes.now tree.now) }
+{
+    match number_row(bytes, tree) {
+        Some(0) => Ok(()),
+        _ => Err(fault(tree)),
+    }
+}
+
+/// The number of a cell error.
+#[tactic(auto, unfolding(crate::specs::ResponseReading::failure_at))]
+pub fn read_failure(bytes: &[u8], tree: &Tree) -> Result<u32, ElementFault>
+    ensures { Gives result (failure_at bytes.now tree.now) }
+{
+    let Some(guid) = guid_row(bytes, tree) else {
+        return Err(fault(tree));
+    };
+    if guid.number != CELL_ERROR {
+        return Err(fault(tree));
+    }
+    match only_child(tree, 0x66) {
+        Some(child) => read_number(bytes, child),
+        None => Err(fault(tree)),
+    }
+}
+
+// Whether an error is an HRESULT of 0, which is none.
+#[tactic(auto, unfolding(crate::specs::ResponseReading::success_at))]
+fn check_success(bytes: &[u8], tree: &Tree) -> Result<(), ElementFault>
+    ensures { Gives result (success_at bytes.now tree.now) }
+{
+    let Some(guid) = guid_row(bytes, tree) else {
+        return Err(fault(tree));
+    };
+    if guid.number != HRESULT_ERROR {
+        return Err(fault(tree));
+    }
+    match only_child(tree, 0x52) {
+        Some(child) => check_zero(bytes, child),
+        None => Err(fault(tree)),
+    }
+}
+
+/// Whether an object says that there is access.
+#[tactic(auto, unfolding(crate::specs::ResponseReading::access_at))]
+pub fn check_access(bytes: &[u8], tree: &Tree) -> Result<(), ElementFault>
+    ensures { Gives result (access_at bytes.now tree.now) }
+{
+    if !has_no_fields(bytes, tree) {
+        return Err(fault(tree));
+    }
+    match only_child(tree, 0x4D) {
+        Some(child) => check_success(bytes, child),
+        None => Err(fault(tree)),
+    }
+}
+
+/// The index of a whole query answer.
+#[tactic(auto, unfolding(crate::specs::ResponseReading::query_at))]
+pub fn read_query(bytes: &[u8], tree: &Tree) -> Result<ExGuid, ElementFault>
+    ensures { Gives result (query_at bytes.now tree.now) }
+{
+    match query_row(bytes, tree) {
+        Some((index, 0)) => Ok(index),
+        _ => Err(fault(tree)),
+    }
+}
+
+/// The numbers of an allocate answer.
+#[tactic(auto, unfolding(crate::specs::ResponseReading::allocate_at))]
+pub fn read_allocate(bytes: &[u8], tree: &Tree) -> Result<(Guid, (u64, u64)), ElementFault>
+    ensures { Gives result (allocate_at bytes.now tree.now) }
+{
+    match allocate_row(bytes, tree) {
+        Some(numbers) => Ok(numbers),
+        None => Err(fault(tree)),
+    }
+}
+
+/// What a client knows.
+pub fn read_known(alloc: Global, bytes: &[u8], tree: &Tree) -> Result<Knowledge, ElementFault>
+    ensures { Gives result (known_at bytes.now tree.now) }
+{
+    read_knowledge(alloc, bytes, tree)
+}

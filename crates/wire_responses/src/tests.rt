@@ -1,0 +1,266 @@
+// Responses, byte by byte. The objects: a start of 32 bits is 2, 4 more for compound, 8 times the type and 131,072 times the
+// length; an end of 16 bits is 3 and 4 times the type.
+ghost use Rattle.wire_responses.specs.Forms.{HasForm};
+
+use super::*;
+use compact_values::{ExGuid, Guid, NoMemory, Octets, Seq};
+use data_elements::WireFault;
+use doc_model::{
+    Answer, Body, CellResponse, Code, Element, Knowledge, NumberedElement, Range, Reply, Seen,
+    Submitted,
+};
+use std::alloc::Global;
+use std::test::Fail;
+
+/// 00112233-4455-6677-8899-aabbccddeeff
+const DOCUMENT: Guid = Guid {
+    number: 0x0011_2233_4455_6677_8899_aabb_ccdd_eeff,
+};
+
+/// The numbers 1 to 1000 are drawn.
+const DRAWN: [u8; 55] = [
+    0x0C, 0x00, 0x0B, 0x00, 0x9D, 0xCF, 0x29, 0xF3, 0x39, 0x94, 0x06, 0x9B, 0x16, 0x03, 0x02, 0x00,
+    0x00, 0xAC, 0x02, 0x00, 0x55, 0x0E, 0x02, 0x06, 0x00, 0x03, 0x17, 0x00, 0x0A, 0x04, 0x26, 0x00,
+    0x33, 0x22, 0x11, 0x00, 0x55, 0x44, 0x77, 0x66, 0x88, 0x99, 0xAA, 0xBB, 0xCC, 0xDD, 0xEE, 0xFF,
+    0x03, 0xA2, 0x0F, 0x07, 0x01, 0x8B, 0x01,
+];
+
+/// A draw is refused with 4.
+const REFUSED: [u8; 62] = [
+    0x0C, 0x00, 0x0B, 0x00, 0x9D, 0xCF, 0x29, 0xF3, 0x39, 0x94, 0x06, 0x9B, 0x16, 0x03, 0x02, 0x00,
+    0x00, 0xAC, 0x02, 0x00, 0x55, 0x0E, 0x02, 0x06, 0x00, 0x03, 0x17, 0x01, 0x6E, 0x02, 0x20, 0x00,
+    0x56, 0xA7, 0x66, 0x5A, 0xCE, 0x87, 0x90, 0x42, 0xA3, 0x8B, 0xC6, 0x1C, 0x5B, 0xA0, 0x5A, 0x67,
+    0x32, 0x03, 0x08, 0x00, 0x04, 0x00, 0x00, 0x00, 0x37, 0x01, 0x07, 0x01, 0x8B, 0x01,
+];
+
+/// The pull of an empty document.
+const EMPTY: [u8; 66] = [
+    0x0C, 0x00, 0x0B, 0x00, 0x9D, 0xCF, 0x29, 0xF3, 0x39, 0x94, 0x06, 0x9B, 0x16, 0x03, 0x02, 0x00,
+    0x00, 0xAC, 0x02, 0x00, 0x55, 0x0E, 0x02, 0x06, 0x00, 0x03, 0x05, 0x00, 0xFA, 0x02, 0x04, 0x00,
+    0x00, 0x00, 0x84, 0x00, 0x26, 0x02, 0x20, 0x00, 0xF6, 0x35, 0x7A, 0x32, 0x61, 0x07, 0x14, 0x44,
+    0x96, 0x86, 0x51, 0xE9, 0x00, 0x66, 0x7A, 0x4D, 0xA4, 0x00, 0x51, 0x13, 0x01, 0x41, 0x07, 0x01,
+    0x8B, 0x01,
+];
+
+/// The whole request failed with 3.
+const FAILED: [u8; 49] = [
+    0x0C, 0x00, 0x0B, 0x00, 0x9D, 0xCF, 0x29, 0xF3, 0x39, 0x94, 0x06, 0x9B, 0x16, 0x03, 0x02, 0x00,
+    0x01, 0x6E, 0x02, 0x20, 0x00, 0x56, 0xA7, 0x66, 0x5A, 0xCE, 0x87, 0x90, 0x42, 0xA3, 0x8B, 0xC6,
+    0x1C, 0x5B, 0xA0, 0x5A, 0x67, 0x32, 0x03, 0x08, 0x00, 0x03, 0x00, 0x00, 0x00, 0x37, 0x01, 0x8B,
+    0x01,
+];
+
+/// There is access.
+const ACCESS: [u8; 104] = [
+    0x0C, 0x00, 0x0B, 0x00, 0x9D, 0xCF, 0x29, 0xF3, 0x39, 0x94, 0x06, 0x9B, 0x16, 0x03, 0x02, 0x00,
+    0x00, 0xAC, 0x02, 0x00, 0x55, 0x0E, 0x02, 0x06, 0x00, 0x03, 0x03, 0x00, 0x1E, 0x02, 0x00, 0x00,
+    0x6E, 0x02, 0x20, 0x00, 0xF2, 0xC8, 0x54, 0x84, 0x01, 0xE4, 0x5A, 0x40, 0xA1, 0x98, 0xA1, 0x0B,
+    0x69, 0x91, 0xB5, 0x6E, 0x92, 0x02, 0x08, 0x00, 0x00, 0x00, 0x00, 0x00, 0x37, 0x01, 0x0F, 0x01,
+    0x36, 0x02, 0x00, 0x00, 0x6E, 0x02, 0x20, 0x00, 0xF2, 0xC8, 0x54, 0x84, 0x01, 0xE4, 0x5A, 0x40,
+    0xA1, 0x98, 0xA1, 0x0B, 0x69, 0x91, 0xB5, 0x6E, 0x92, 0x02, 0x08, 0x00, 0x00, 0x00, 0x00, 0x00,
+    0x37, 0x01, 0x1B, 0x01, 0x07, 0x01, 0x8B, 0x01,
+];
+
+/// A pull of one element: a cell manifest with the serial number 1, whose current revision is null.
+const PULLED: [u8; 151] = [
+    0x0C, 0x00, 0x0B, 0x00, 0x9D, 0xCF, 0x29, 0xF3, 0x39, 0x94, 0x06, 0x9B, 0x16, 0x03, 0x02, 0x00,
+    0x00, 0xAC, 0x02, 0x00, 0x0C, 0x56, 0x0C, 0x33, 0x22, 0x11, 0x00, 0x55, 0x44, 0x77, 0x66, 0x88,
+    0x99, 0xAA, 0xBB, 0xCC, 0xDD, 0xEE, 0xFF, 0x80, 0x33, 0x22, 0x11, 0x00, 0x55, 0x44, 0x77, 0x66,
+    0x88, 0x99, 0xAA, 0xBB, 0xCC, 0xDD, 0xEE, 0xFF, 0x01, 0x00, 0x00, 0x00, 0x00, 0x00, 0x00, 0x00,
+    0x07, 0x58, 0x02, 0x00, 0x05, 0x55, 0x0E, 0x02, 0x06, 0x00, 0x03, 0x05, 0x00, 0xFA, 0x02, 0x24,
+    0x00, 0x14, 0x33, 0x22, 0x11, 0x00, 0x55, 0x44, 0x77, 0x66, 0x88, 0x99, 0xAA, 0xBB, 0xCC, 0xDD,
+    0xEE, 0xFF, 0x00, 0x84, 0x00, 0x26, 0x02, 0x20, 0x00, 0xF6, 0x35, 0x7A, 0x32, 0x61, 0x07, 0x14,
+    0x44, 0x96, 0x86, 0x51, 0xE9, 0x00, 0x66, 0x7A, 0x4D, 0xA4, 0x00, 0x78, 0x24, 0x33, 0x22, 0x11,
+    0x00, 0x55, 0x44, 0x77, 0x66, 0x88, 0x99, 0xAA, 0xBB, 0xCC, 0xDD, 0xEE, 0xFF, 0x03, 0x03, 0x51,
+    0x13, 0x01, 0x41, 0x07, 0x01, 0x8B, 0x01,
+];
+
+/// What is written of one answer to a sub-request of id 1.
+fn written(alloc: Global, kind: u64, reply: Reply) -> Result<Octets, NoMemory>
+    requires { HasForm (Submitted.Answered reply) }
+{
+    let mut answers = Seq::new(alloc);
+    answers.push(Answer {
+        id: 1,
+        kind,
+        submitted: Submitted::Answered { reply },
+    })?;
+    write_cell_response(alloc, &answers)
+}
+
+/// An answer to a sub-request of id 1 without any part.
+fn blank(alloc: Global, kind: u64) -> Seen {
+    Seen {
+        id: 1,
+        kind,
+        fault: None,
+        guid: Guid { number: 0 },
+        index: ExGuid::Null,
+        knowledge: Knowledge {
+            ranges: Seq::new(alloc),
+        },
+        least: 0,
+        greatest: 0,
+    }
+}
+
+/// A response of one answer without elements.
+fn response(alloc: Global, seen: Seen) -> Result<CellResponse, NoMemory> {
+    let mut answers = Seq::new(alloc);
+    answers.push(seen)?;
+    Ok(CellResponse {
+        answers,
+        elements: Seq::new(alloc),
+    })
+}
+
+/// The element of the pull.
+fn element() -> NumberedElement {
+    NumberedElement {
+        serial: 1,
+        element: Element {
+            id: ExGuid::Id {
+                guid: DOCUMENT,
+                value: 1,
+            },
+            body: Body::Cell {
+                current: ExGuid::Null,
+            },
+        },
+    }
+}
+
+/// The knowledge of the serial number 1.
+fn knowledge(alloc: Global) -> Result<Knowledge, NoMemory> {
+    let mut ranges = Seq::new(alloc);
+    ranges.push(Range {
+        guid: DOCUMENT,
+        from: 1,
+        to: 1,
+    })?;
+    Ok(Knowledge { ranges })
+}
+
+/// The stored index of the pull.
+const INDEX: ExGuid = ExGuid::Id {
+    guid: DOCUMENT,
+    value: 2,
+};
+
+#[test]
+fn a_draw_is_written(rt: HostRuntime) -> Result<(), Fail> {
+    let reply = Reply::Drawn {
+        guid: DOCUMENT,
+        least: 1,
+        greatest: 1000,
+    };
+    let bytes = written(rt.alloc(), 11, reply).ok().ok_or("memory")?;
+    assert_eq!(rt; bytes.as_slice(), &DRAWN[..]);
+    Ok(())
+}
+
+#[test]
+fn a_draw_is_read(rt: HostRuntime) -> Result<(), Fail> {
+    let mut seen = blank(rt.alloc(), 11);
+    seen.guid = DOCUMENT;
+    seen.least = 1;
+    seen.greatest = 1000;
+    let expected = response(rt.alloc(), seen).ok().ok_or("memory")?;
+    assert_eq!(rt; read_cell_response(rt.alloc(), &DRAWN), Ok(expected));
+    Ok(())
+}
+
+#[test]
+fn a_refusal_is_written(rt: HostRuntime) -> Result<(), Fail> {
+    let reply = Reply::Refused {
+        code: Code::NotSupported,
+    };
+    let bytes = written(rt.alloc(), 11, reply).ok().ok_or("memory")?;
+    assert_eq!(rt; bytes.as_slice(), &REFUSED[..]);
+    Ok(())
+}
+
+#[test]
+fn a_refusal_is_read(rt: HostRuntime) -> Result<(), Fail> {
+    let mut seen = blank(rt.alloc(), 11);
+    seen.fault = Some(4);
+    let expected = response(rt.alloc(), seen).ok().ok_or("memory")?;
+    assert_eq!(rt; read_cell_response(rt.alloc(), &REFUSED), Ok(expected));
+    Ok(())
+}
+
+#[test]
+fn access_is_written(rt: HostRuntime) -> Result<(), Fail> {
+    let bytes = written(rt.alloc(), 1, Reply::Access).ok().ok_or("memory")?;
+    assert_eq!(rt; bytes.as_slice(), &ACCESS[..]);
+    Ok(())
+}
+
+#[test]
+fn access_is_read(rt: HostRuntime) -> Result<(), Fail> {
+    let expected = response(rt.alloc(), blank(rt.alloc(), 1)).ok().ok_or("memory")?;
+    assert_eq!(rt; read_cell_response(rt.alloc(), &ACCESS), Ok(expected));
+    Ok(())
+}
+
+#[test]
+fn the_pull_of_an_empty_document_is_written(rt: HostRuntime) -> Result<(), Fail> {
+    let reply = Reply::Pulled {
+        guid: DOCUMENT,
+        index: ExGuid::Null,
+        elements: Seq::new(rt.alloc()),
+        knowledge: Knowledge {
+            ranges: Seq::new(rt.alloc()),
+        },
+    };
+    let bytes = written(rt.alloc(), 2, reply).ok().ok_or("memory")?;
+    assert_eq!(rt; bytes.as_slice(), &EMPTY[..]);
+    Ok(())
+}
+
+#[test]
+fn the_pull_of_an_empty_document_is_read(rt: HostRuntime) -> Result<(), Fail> {
+    let expected = response(rt.alloc(), blank(rt.alloc(), 2)).ok().ok_or("memory")?;
+    assert_eq!(rt; read_cell_response(rt.alloc(), &EMPTY), Ok(expected));
+    Ok(())
+}
+
+#[test]
+fn a_pull_is_written(rt: HostRuntime) -> Result<(), Fail> {
+    let mut elements = Seq::new(rt.alloc());
+    elements.push(element()).ok().ok_or("memory")?;
+    let reply = Reply::Pulled {
+        guid: DOCUMENT,
+        index: INDEX,
+        elements,
+        knowledge: knowledge(rt.alloc()).ok().ok_or("memory")?,
+    };
+    let bytes = written(rt.alloc(), 2, reply).ok().ok_or("memory")?;
+    assert_eq!(rt; bytes.as_slice(), &PULLED[..]);
+    Ok(())
+}
+
+#[test]
+fn a_pull_is_read(rt: HostRuntime) -> Result<(), Fail> {
+    let mut seen = blank(rt.alloc(), 2);
+    seen.index = INDEX;
+    seen.knowledge = knowledge(rt.alloc()).ok().ok_or("memory")?;
+    let mut expected = response(rt.alloc(), seen).ok().ok_or("memory")?;
+    expected.elements.push(element()).ok().ok_or("memory")?;
+    assert_eq!(rt; read_cell_response(rt.alloc(), &PULLED), Ok(expected));
+    Ok(())
+}
+
+#[test]
+fn a_failure_of_the_request_is_written(rt: HostRuntime) -> Result<(), Fail> {
+    let bytes = write_cell_failure(rt.alloc(), 3).ok().ok_or("memory")?;
+    assert_eq!(rt; bytes.as_slice(), &FAILED[..]);
+    Ok(())
+}
+
+#[test]
+fn a_failure_of_the_request_is_no_response(rt: HostRuntime) -> Result<(), Fail> {
+    let fault = Err(WireFault::SchemaFault { place: 16 });
+    assert_eq!(rt; read_cell_response(rt.alloc(), &FAILED), fault);
+    Ok(())
+}

@@ -1,0 +1,161 @@
+// Writing what a sub-response holds.
+ghost use Rattle.std.specs.Int.{w32, to_le_bytes};
+ghost use Rattle.std.specs.Prelude.{◌≡◌, ◌≤◌, ◌++◌, [], ◌∷◌, OnOk};
+ghost use Rattle.compact_values.specs.Compact.{compact};
+ghost use Rattle.compact_values.specs.GuidBytes.{guid_bytes};
+ghost use Rattle.compact_values.specs.Ids.{exguid};
+ghost use Rattle.doc_model.specs.Responses.{reply_objects, error_object, success_object, status_byte, code_number};
+ghost use Rattle.stream_objects.specs.Written.{simple_object, compound_object};
+
+use byteorder::{ByteOrder, LittleEndian};
+use compact_values::{ExGuid, Guid, NoMemory, Octets, guid_bytes, write_compact, write_exguid};
+use data_elements::write_knowledge;
+use doc_model::{Code, Reply, Submitted};
+use std::alloc::Global;
+use stream_objects::{begin, finish};
+
+/// The GUID of cell errors, 5a66a756-87ce-4290-a38b-c61c5ba05a67.
+const CELL_ERROR: Guid = Guid {
+    number: 0x5a66_a756_87ce_4290_a38b_c61c_5ba0_5a67,
+};
+
+/// The GUID of HRESULT errors, 8454c8f2-e401-405a-a198-a10b6991b56e.
+const HRESULT_ERROR: Guid = Guid {
+    number: 0x8454_c8f2_e401_405a_a198_a10b_6991_b56e,
+};
+
+// The 4 bytes of a number, the least first.
+fn four_bytes(number: u32) -> [u8; 4]
+    ensures { result ≡ to_le_bytes w32 number }
+{
+    let mut bytes = [0; 4];
+    LittleEndian::write_u32(&mut bytes, number);
+    bytes
+}
+
+/// A cell error.
+pub fn write_error(out: &mut Octets, number: u32) -> Result<(), NoMemory>
+    ensures { OnOk result (out.new ≡ out.old ++ error_object number) }
+{
+    begin(out, 0x4D, true, &guid_bytes(CELL_ERROR))?;
+    begin(out, 0x66, false, &four_bytes(number))?;
+    finish(out, 0x4D)
+}
+
+// An HRESULT of 0.
+fn write_success(out: &mut Octets) -> Result<(), NoMemory>
+    ensures { OnOk result (out.new ≡ out.old ++ success_object) }
+{
+    begin(out, 0x4D, true, &guid_bytes(HRESULT_ERROR))?;
+    begin(out, 0x52, false, &four_bytes(0))?;
+    finish(out, 0x4D)
+}
+
+// An answer that there is read access, or write access.
+fn write_one_access(out: &mut Octets, kind: u16) -> Result<(), NoMemory>
+    requires { kind ≤ 16383 }
+    ensures { OnOk result (out.new ≡ out.old ++ compound_object kind [] success_object) }
+{
+    begin(out, kind, true, &[])?;
+    write_success(out)?;
+    finish(out, kind)
+}
+
+// That there is read access, and write access.
+fn write_access(out: &mut Octets) -> Result<(), NoMemory>
+    ensures { OnOk result (out.new ≡ out.old ++ (compound_object 0x43 [] success_object ++ compound_object 0x46 [] success_object)) }
+{
+    write_one_access(out, 0x43)?;
+    write_one_access(out, 0x46)
+}
+
+// A query answer: the index, and that the answer is whole.
+fn write_query(alloc: Global, out: &mut Octets, index: &ExGuid) -> Result<(), NoMemory>
+    ensures { OnOk result (out.new ≡ out.old ++ simple_object 0x5F (exguid index.now ++ 0 ∷ [])) }
+{
+    let mut fields = Octets::new(alloc);
+    write_exguid(&mut fields, index)?;
+    fields.push(0)?;
+    begin(out, 0x5F, false, fields.as_slice())
+}
+
+// An allocate answer.
+fn write_drawn(
+    alloc: Global,
+    out: &mut Octets,
+    guid: Guid,
+    least: u64,
+    greatest: u64,
+) -> Result<(), NoMemory>
+    ensures { OnOk result (out.new ≡ out.old ++ simple_object 0x81 (guid_bytes guid.number ++ compact least ++ compact greatest)) }
+{
+    let mut fields = Octets::new(alloc);
+    fields.extend_from_slice(&guid_bytes(guid))?;
+    write_compact(&mut fields, least)?;
+    write_compact(&mut fields, greatest)?;
+    begin(out, 0x81, false, fields.as_slice())
+}
+
+// The number of a code in a cell error, where a sub-request can meet it.
+fn code_number(code: Code) -> Option<u32>
+    ensures { result ≡ code_number code }
+{
+    match code {
+        Code::InvalidObject => Some(2),
+        Code::NotSupported => Some(4),
+        Code::Coherency => Some(12),
+        Code::NotFound => Some(16),
+        Code::StorageLimit => Some(21),
+        Code::Unserializable => Some(23),
+        Code::AlreadyLocked => Some(1001),
+        _ => None,
+    }
+}
+
+// What the sub-response of a reply holds.
+fn write_answered(alloc: Global, out: &mut Octets, reply: &Reply) -> Result<(), NoMemory>
+    ensures { OnOk result (out.new ≡ out.old ++ reply_objects (Submitted.Answered reply.now)) }
+{
+    match reply {
+        Reply::Access => write_access(out),
+        Reply::Pulled {
+            index, knowledge, ..
+        } => {
+            write_query(alloc, out, index)?;
+            write_knowledge(out, knowledge)
+        }
+        Reply::Stored { knowledge } => write_knowledge(out, knowledge),
+        Reply::Drawn {
+            guid,
+            least,
+            greatest,
+        } => write_drawn(alloc, out, *guid, *least, *greatest),
+        Reply::Refused { code } => write_error(out, code_number(*code).unwrap_or(0)),
+        _ => Ok(()),
+    }
+}
+
+/// What a sub-response holds.
+pub fn write_reply(alloc: Global, out: &mut Octets, submitted: &Submitted) -> Result<(), NoMemory>
+    ensures { OnOk result (out.new ≡ out.old ++ reply_objects submitted.now) }
+{
+    match submitted {
+        Submitted::Answered { reply } => write_answered(alloc, out, reply),
+        Submitted::DiskFault => write_error(out, 1002),
+        Submitted::JournalFull => write_error(out, 1003),
+        Submitted::NoMemory => write_error(out, 1004),
+    }
+}
+
+/// The status byte of a sub-response.
+pub fn status_byte(submitted: &Submitted) -> u8
+    ensures { result ≡ status_byte submitted.now }
+{
+    match submitted {
+        Submitted::Answered {
+            reply: Reply::Refused { .. },
+        } => 1,
+        Submitted::Answered { .. } => 0,
+        _ => 1,
+    }
+}
