@@ -16,8 +16,8 @@ use Rattle.doc_model.specs.Fronts.{HasVersions, HasSignature}
 use Rattle.doc_model.specs.Requests.{SaysRequest, IsRequest}
 use Rattle.doc_model.specs.RequestParts.{InOwnForm, part_start, request_parts}
 use Rattle.doc_model.specs.declared.request.CellRequest.{CellRequest}
-use Rattle.wire_requests.specs.declared.fault.WireFault.{WireFault}
-use Rattle.wire_requests.specs.declared.fault.WireFault.TheVariants as faults
+use Rattle.data_elements.specs.declared.wire_fault.WireFault.{WireFault}
+use Rattle.data_elements.specs.declared.wire_fault.WireFault.TheVariants as faults
 use Rattle.wire_requests.specs.RequestReading.{request_at}
 use Rattle.wire_requests.specs.RequestAnswers.{IsFramed, IsAnswer, IsOnlyAnswer, GivesRequest}
 use Rattle.wire_requests.proofs.RequestLaws.{judges_request, again_request}
