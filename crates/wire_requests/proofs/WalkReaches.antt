@@ -1,5 +1,5 @@
 -- A walk down to as many levels as a tree has meets all of its objects.
-use Rattle.std.proofs.Common.{◌≡◌, ℕ, zero, suc, ◌+◌, Bool, true, false, List, [], ◌∷◌, ◌++◌, refl, ap, subst, ◌∙◌, arith}
+use Rattle.std.proofs.Common.{◌≡◌, ℕ, zero, suc, ◌+◌, Bool, true, false, List, [], ◌∷◌, ◌++◌, refl, ap, ◌∙◌, arith}
 use Rattle.std.specs.List.{flat_map}
 use Rattle.stream_objects.specs.Trees.{Consecutive, EndsBehind, IsObject}
 use Rattle.stream_objects.specs.declared.tree.Tree.{Tree}
