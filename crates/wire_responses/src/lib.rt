@@ -7,9 +7,11 @@
 //! - `read`: reading a response
 //! - `write_reply`: writing what a sub-response holds
 //! - `write`: writing a response
+//! - `laws`: what holds of responses themselves
 #![tactic(auto)]
 
 mod front;
+pub mod laws;
 mod read;
 mod reply;
 mod rows;
