@@ -148,7 +148,7 @@ module _ (input : List ℕ) (n : ℕ) (id kind : ℕ) (i : id < 2 ^ 64) (k : kin
       let q = p + length (started 0x41 true fields) in
       whole_map input levels 3 p (p + length (compound_object 0x41 fields x)) (λ t. (kind_of t ≡ 0x41) × (HasFields true Row input t (id, (kind, 1)) × One 0x4D (IsCellError input) t number))
       (λ t. Of 0x41 (IsSeen input) t (record (blank id kind) { fault = Some number }))
-      (λ t h. (h.0, record { id = id; kind = kind; status = 1; fields = h.1; form = Failed; form_is = refl; says = (number, h.2, refl) }))
+      (λ t h. (h.0, record { id = id; kind = kind; status = 1; fields = h.1.0; form = Failed; form_is = refl; says = (number, h.1.1, refl) }))
       (holder input (suc (suc (suc (suc n)))) p 0x41 0x4D Row (id, (kind, 1)) fields x (IsCellError input) number 2 (omega arith) (row_short id kind 1) (row_spelled id kind 1 i k) a
       (error_stands input (suc (suc n)) number q f (inside_at input p 0x41 fields x a)))
 
@@ -162,7 +162,7 @@ module _ (input : List ℕ) (n : ℕ) (id kind : ℕ) (i : id < 2 ^ 64) (k : kin
       let held = inside_at input p 0x41 fields (x ++ y) a in
       whole_map input levels 7 p (p + length (compound_object 0x41 fields (x ++ y)))
       (λ t. (kind_of t ≡ 0x41) × (HasFields true Row input t (id, (kind, 0)) × (One 0x43 (IsAccess input) t tt × One 0x46 (IsAccess input) t tt))) (λ t. Of 0x41 (IsSeen input) t (blank id kind))
-      (λ t h. (h.0, record { id = id; kind = kind; status = 0; fields = h.1; form = Access; form_is = ap (λ (m : ℕ). reply_form m 0) is; says = (h.2, h.3, refl) }))
+      (λ t h. (h.0, record { id = id; kind = kind; status = 0; fields = h.1.0; form = Access; form_is = ap (λ (m : ℕ). reply_form m 0) is; says = (h.1.1.0, h.1.1.1, refl) }))
       (both_held input (suc (suc (suc (suc n)))) p 0x41 0x43 0x46 Row (id, (kind, 0)) fields x y (IsAccess input) (IsAccess input) tt tt 3 3 (λ e. omega (arith, e)) (omega arith) (row_short id kind 0) (row_spelled id kind 0 i k) a
       (access_stands input (suc n) 0x43 q (omega arith) (at_front input q x y held)) (access_stands input (suc n) 0x46 (q + length x) (omega arith) (at_back input q x y held)))
 
@@ -178,7 +178,7 @@ module _ (input : List ℕ) (n : ℕ) (id kind : ℕ) (i : id < 2 ^ 64) (k : kin
       whole_map input levels (1 + (1 + (3 + length known.ranges))) p (p + length (compound_object 0x41 fields (x ++ y)))
       (λ t. (kind_of t ≡ 0x41) × (HasFields true Row input t (id, (kind, 0)) × (One 0x5F (QueryAnswer input) t index × One 0x10 (IsKnowledge input) t known)))
       (λ t. Of 0x41 (IsSeen input) t (record (blank id kind) { index = index; knowledge = known }))
-      (λ t h. (h.0, record { id = id; kind = kind; status = 0; fields = h.1; form = Pulled; form_is = ap (λ (m : ℕ). reply_form m 0) is; says = (index, known, h.2, h.3, refl) }))
+      (λ t h. (h.0, record { id = id; kind = kind; status = 0; fields = h.1.0; form = Pulled; form_is = ap (λ (m : ℕ). reply_form m 0) is; says = (index, known, h.1.1.0, h.1.1.1, refl) }))
       (both_held input (suc (suc (suc (suc n)))) p 0x41 0x5F 0x10 Row (id, (kind, 0)) fields x y (QueryAnswer input) (IsKnowledge input) index known 1 (3 + length known.ranges) (λ e. omega (arith, e)) (omega arith)
       (row_short id kind 0) (row_spelled id kind 0 i k) a (query_stands input (suc (suc (suc n))) index q f (at_front input q x y held)) (knowledge_stands input n known (q + length x) g (at_back input q x y held)))
 
@@ -190,7 +190,7 @@ module _ (input : List ℕ) (n : ℕ) (id kind : ℕ) (i : id < 2 ^ 64) (k : kin
       let q = p + length (started 0x41 true fields) in
       whole_map input levels (1 + (3 + length known.ranges)) p (p + length (compound_object 0x41 fields x)) (λ t. (kind_of t ≡ 0x41) × (HasFields true Row input t (id, (kind, 0)) × One 0x10 (IsKnowledge input) t known))
       (λ t. Of 0x41 (IsSeen input) t (record (blank id kind) { knowledge = known }))
-      (λ t h. (h.0, record { id = id; kind = kind; status = 0; fields = h.1; form = Stored; form_is = ap (λ (m : ℕ). reply_form m 0) is; says = (known, h.2, refl) }))
+      (λ t h. (h.0, record { id = id; kind = kind; status = 0; fields = h.1.0; form = Stored; form_is = ap (λ (m : ℕ). reply_form m 0) is; says = (known, h.1.1, refl) }))
       (holder input (suc (suc (suc (suc n)))) p 0x41 0x10 Row (id, (kind, 0)) fields x (IsKnowledge input) known (3 + length known.ranges) (omega arith) (row_short id kind 0) (row_spelled id kind 0 i k) a
       (knowledge_stands input n known q g (inside_at input p 0x41 fields x a)))
 
@@ -202,7 +202,7 @@ module _ (input : List ℕ) (n : ℕ) (id kind : ℕ) (i : id < 2 ^ 64) (k : kin
       let q = p + length (started 0x41 true fields) in
       whole_map input levels 2 p (p + length (compound_object 0x41 fields x)) (λ t. (kind_of t ≡ 0x41) × (HasFields true Row input t (id, (kind, 0)) × One 0x81 (AllocateAnswer input) t (g, (first, last))))
       (λ t. Of 0x41 (IsSeen input) t (record (blank id kind) { guid = g; least = first; greatest = last }))
-      (λ t h. (h.0, record { id = id; kind = kind; status = 0; fields = h.1; form = Drawn; form_is = ap (λ (m : ℕ). reply_form m 0) is; says = ((g, (first, last)), h.2, refl) }))
+      (λ t h. (h.0, record { id = id; kind = kind; status = 0; fields = h.1.0; form = Drawn; form_is = ap (λ (m : ℕ). reply_form m 0) is; says = ((g, (first, last)), h.1.1, refl) }))
       (holder input (suc (suc (suc (suc n)))) p 0x41 0x81 Row (id, (kind, 0)) fields x (AllocateAnswer input) (g, (first, last)) 1 (omega arith) (row_short id kind 0) (row_spelled id kind 0 i k) a
       (allocate_stands input (suc (suc (suc n))) g first last q f l m (inside_at input p 0x41 fields x a)))
 

@@ -104,7 +104,7 @@ module _ (input : List ℕ) (n : ℕ) where
       record {
         tree = b.tree;
         object = b.object;
-        is = (b.is.0, record { kind = b.is.0; fields = b.is.1; elements = b.is.2; answers = answers_seen b.tree answers b.is.3 });
+        is = (b.is.0, record { kind = b.is.0; fields = b.is.1.0; elements = b.is.1.1.0; answers = answers_seen b.tree answers b.is.1.1.1 });
         count_is = b.count_is;
       }
 

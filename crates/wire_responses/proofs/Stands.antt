@@ -2,7 +2,7 @@
 use Rattle.std.proofs.Common.{◌≡◌, ℕ, suc, ◌+◌, ◌^◌, ◌<◌, ◌≤◌, true, List, [], ◌∷◌, ◌++◌, length, map, sum, refl, sym, ap, subst, ◌∙◌, arith}
 use Rattle.std.specs.Prelude.{filter}
 use Rattle.std.specs.List.{flat_map, sum_by, AllByRecursion}
-use Rattle.std.proofs.lemmas.List.{length-append, sum_by-append}
+use Rattle.std.proofs.lemmas.List.Sums.{sum_by-append}
 use Rattle.stream_objects.specs.Objects.{HasFields, One, Each, kind_of, is_kind}
 use Rattle.stream_objects.specs.Trees.{Consecutive, IsObject, objects}
 use Rattle.stream_objects.specs.Written.{started, compound_object}
@@ -18,10 +18,10 @@ each_join R (x ∷ xs) ys [] vs g h = absurd g
 each_join R (x ∷ xs) ys (u ∷ us) vs g h = (g.0, each_join R xs ys us vs g.1 h)
 
 -- of what the values are made into
-pub each_made : {A V : Type 0} (R : Tree → V → Type 0) (make : A → V) (ts : List Tree) (as : List A) → Each (λ t a. R t (make a)) ts as → Each R ts (map make as)
+pub each_made : {A V : Type 0} (R : Tree → V → Type 0) (make : A → V) (ts : List Tree) (values_in : List A) → Each (λ t a. R t (make a)) ts values_in → Each R ts (map make values_in)
 each_made R make [] [] e = tt
-each_made R make (t ∷ ts) (a ∷ as) e = (e.0, each_made R make ts as e.1)
-each_made R make [] (a ∷ as) e = e
+each_made R make (t ∷ ts) (a ∷ values_in) e = (e.0, each_made R make ts values_in e.1)
+each_made R make [] (a ∷ values_in) e = e
 each_made R make (t ∷ ts) [] e = e
 
 module _ (input : List ℕ) where
@@ -51,7 +51,7 @@ module _ (input : List ℕ) where
   -- runs of objects, one behind the other
   pub all_runs : {A V : Type 0} (levels : ℕ) (R : Tree → V → Type 0) (Fits : A → Type 0) (values : A → List V) (bytes_of : A → List ℕ) (count_of : A → ℕ)
       → ((a : A) (p : ℕ) → Fits a → At input p (bytes_of a) → Run input levels R (values a) (count_of a) p (p + length (bytes_of a)))
-      → (as : List A) (p : ℕ) → AllByRecursion Fits as → At input p (flat_map bytes_of as) → Run input levels R (flat_map values as) (sum_by count_of as) p (p + length (flat_map bytes_of as))
+      → (values_in : List A) (p : ℕ) → AllByRecursion Fits values_in → At input p (flat_map bytes_of values_in) → Run input levels R (flat_map values values_in) (sum_by count_of values_in) p (p + length (flat_map bytes_of values_in))
   all_runs {A} {V} levels R Fits values bytes_of count_of one [] p f a = record { trees = []; standing = omega arith; each = tt; count_is = refl }
   all_runs {A} {V} levels R Fits values bytes_of count_of one (x ∷ xs) p f a =
       let b = bytes_of x in
