@@ -47,3 +47,13 @@ same-id (Id g v) = rw (same-guid g) (reflexive v)
 
 pub same-cell : (a : CellId) → same_cell a a ≡ true
 same-cell a = rw (same-id a.first) (same-id a.second)
+
+-- the tests don't depend on the order
+swapped : (a b : ℕ) → nat_eq a b ≡ nat_eq b a
+swapped a b = grind (arith, nat_tests)
+
+pub id-swap : (a b : ExGuid) → same_id a b ≡ same_id b a
+id-swap Null Null = refl
+id-swap Null (Id g v) = refl
+id-swap (Id g v) Null = refl
+id-swap (Id g v) (Id h w) = ap (λ t. t && (v == w)) (swapped g.number h.number) ∙ ap (λ t. same_guid h g && t) (swapped v w)

@@ -14,3 +14,4 @@ pub mod ItemReading
 pub mod Sequences
 pub mod Taking
 pub mod SameIds
+pub mod IdPlaces

@@ -5,6 +5,7 @@
 //! - `text`: `Text`, a text seen as its characters, and `Names`
 //! - `guid`: GUIDs, their 16 bytes and their texts
 //! - `ids`: extended GUIDs, serial numbers, cell ids, and their lists
+//! - `id_index`: a list of extended GUIDs that finds an id without looking through the list
 //! - `span`: a part of the input
 //! - `form`: numbers in fields whose low bits say in which form they are
 //! - `numbers`: numbers as bytes, the least first
@@ -22,6 +23,7 @@ mod exguid;
 mod fault;
 mod form;
 mod guid;
+mod id_index;
 mod ids;
 mod item;
 pub mod laws;
@@ -38,6 +40,7 @@ pub use compact::{read_compact, write_compact};
 pub use exguid::{read_exguid, read_guid, write_exguid, write_guid};
 pub use fault::{NoMemory, ValueFault};
 pub use guid::{Guid, guid_bytes, guid_of, guid_of_text, guid_text};
+pub use id_index::IdIndex;
 pub use ids::{CellId, CellIds, ExGuid, Ids, Serial};
 pub use item::{read_item, write_item};
 pub use numbers::{append_low_bytes, number_of};

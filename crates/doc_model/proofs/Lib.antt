@@ -1,2 +1,14 @@
 pub mod SizeLemmas
 pub mod NodeLaws
+pub mod Unmoved
+pub mod OnStored
+pub mod EachItem
+pub mod Firsts
+pub mod Agree
+pub mod Added
+pub mod Download
+pub mod Distinct
+pub mod SoundElements
+pub mod KeepsSound
+pub mod SoundParts
+pub mod SoundCommits

@@ -32,3 +32,4 @@ pub mod Apply
 pub mod NumberedElements
 pub mod SeenResponses
 pub mod ResponseParts
+pub mod Laws

@@ -1,5 +1,5 @@
 -- What a put does.
-use Rattle.std.specs.Prelude.{ℕ, ◌+◌, ◌==◌, nat_lt, Bool, true, false, not, ◌&&◌, ◌||◌, if◌then◌else◌, List, [], ◌∷◌, ◌++◌, length, map, filter, find, sum_by, Option, is_some, is_none, option_map, unwrap_or}
+use Rattle.std.specs.Prelude.{ℕ, ◌+◌, ◌==◌, nat_lt, Bool, true, false, not, ◌&&◌, ◌||◌, if◌then◌else◌, List, [], ◌∷◌, ◌++◌, length, map, filter, find, sum_by, Option, None, Some, is_some, is_none, option_map, unwrap_or}
 use Rattle.std.specs.List.{list_any}
 use Rattle.compact_values.specs.declared.guid.Guid.{Guid}
 use Rattle.compact_values.specs.declared.ids.ExGuid.{ExGuid}
@@ -14,7 +14,7 @@ use Rattle.doc_model.specs.declared.element.NumberedElement.{NumberedElement}
 use Rattle.doc_model.specs.declared.reply.Reply.TheVariants.{Stored}
 use Rattle.doc_model.specs.declared.reply.Code.{Code}
 use Rattle.doc_model.specs.declared.reply.Code.TheVariants as code
-use Rattle.doc_model.specs.Finding.{as_index, said, firsts, numbered_from}
+use Rattle.doc_model.specs.Finding.{find_element, as_index, said, firsts, numbered_from}
 use Rattle.doc_model.specs.Reached.{absent, chains_end, reached_from}
 use Rattle.doc_model.specs.Files.{file}
 use Rattle.doc_model.specs.Pulls.{ranges_of, stored_index}
@@ -45,6 +45,10 @@ is_new added e = not (list_any (same_ids e) added)
 abbrev pub fresh : List Element → List Element → List Element
 fresh added es = filter (is_new added) (firsts same_ids es)
 
+-- what a document has with them
+abbrev pub grown : List Element → List Element → List Element
+grown added es = added ++ fresh added es
+
 -- the uploads of other puts that are not a day old
 abbrev pub is_kept : ℕ → ExGuid → Part → Bool
 is_kept moment index p = not (same_id p.index index) && nat_lt moment (p.moment + day)
@@ -57,15 +61,18 @@ abbrev pub is_foreign : Guid → ℕ → ExGuid → Bool
 is_foreign guid drawn Null = true
 is_foreign guid drawn (Id g v) = same_guid g guid && nat_lt drawn v
 
--- two elements of one id that say different things
-abbrev pub disagree : Element → Element → Bool
-disagree a b = same_id a.id b.id && not (same_body a.body b.body)
+-- an element that says something else than the one with its id
+abbrev pub differs : Option Element → Element → Bool
+differs None e = false
+differs (Some known) e = not (same_body known.body e.body)
 
-abbrev pub is_invalid : Guid → ℕ → List Element → List Element → Element → Bool
-is_invalid guid drawn added es e = is_foreign guid drawn e.id || list_any (disagree e) added || list_any (disagree e) es
+-- An element whose id nobody may use, or which says something else than the element with its id that the document then has:
+-- of those that have one id, all must say the same.
+abbrev pub is_invalid : Guid → ℕ → List Element → Element → Bool
+is_invalid guid drawn all e = is_foreign guid drawn e.id || differs (find_element all e.id) e
 
 abbrev pub has_invalid : Guid → ℕ → List Element → List Element → Bool
-has_invalid guid drawn added es = list_any (is_invalid guid drawn added es) es
+has_invalid guid drawn added es = list_any (is_invalid guid drawn (grown added es)) es
 
 abbrev pub too_many_parts : List Part → List Element → Bool
 too_many_parts others es = nat_lt most_parts (length others + 1) || nat_lt most_parts_weight (sum_by part_weight others + weight_of es)
@@ -119,7 +126,7 @@ abbrev pub sent_to : Doc → Put → List Element
 sent_to doc p = sent doc.parts p
 
 abbrev pub added_by : Doc → Put → List Element
-added_by doc p = doc.added ++ fresh doc.added (sent_to doc p)
+added_by doc p = grown doc.added (sent_to doc p)
 
 abbrev pub commit_refusal : Doc → ℕ → Put → Option Code
 commit_refusal doc moment p = first_refusal (commit_reasons doc moment p (sent_to doc p) (added_by doc p))

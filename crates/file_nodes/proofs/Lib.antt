@@ -1,2 +1,5 @@
 pub mod PieceLaws
 pub mod PartLaws
+pub mod FindLaws
+pub mod FileLaw
+pub mod ChunkedFile

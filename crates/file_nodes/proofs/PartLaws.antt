@@ -9,9 +9,10 @@ use Rattle.sha2.specs.Sha256.{sha256}
 use Rattle.compact_values.specs.declared.guid.Guid.{Guid}
 use Rattle.compact_values.specs.declared.ids.ExGuid.{ExGuid}
 use Rattle.doc_model.specs.declared.element.Object.{Object}
+use Rattle.doc_model.specs.Nodes.{node_bytes}
 use Rattle.file_nodes.specs.Pieces.{pieces}
 use Rattle.file_nodes.specs.Chunks.{id_of}
-use Rattle.file_nodes.specs.Chunking.{Part, Levels, inline, leaf, node, node_bytes, numbered, objects_of, ids_of, joined_files, levels_within, leaves, levels, file_objects}
+use Rattle.file_nodes.specs.Chunking.{Part, Levels, inline, leaf, node, numbered, objects_of, ids_of, joined_files, levels_within, leaves, levels, file_objects}
 use Rattle.file_nodes.proofs.PieceLaws.{pieces-nil, pieces-front, pieces-append, flat_map-pieces, length-pieces}
 
 -- ---- parts with consecutive values
@@ -203,7 +204,7 @@ module _ (bytes : List ℕ) (guid : Guid) (v : ℕ) where
               length-append (objects_of (leaves bytes guid v)) (objects_of nodes),
               length-map (leaves bytes guid v) (λ (p : Part). p.object),
               length-map nodes (λ (p : Part). p.object),
-              length-nodes 0x1F guid v (v + div_ceil (length bytes) 65536) bytes
+              length-nodes 0x1F guid v (v + div_ceil (length bytes) 65536) bytes,
             )
         | inr few ↦ omega (arith, ap length (all-few few), length-map (leaves bytes guid v) (λ (p : Part). p.object))
       ]

@@ -59,7 +59,7 @@ pieces-front {X} n xs front rest p e f g =
     let size : length front ≡ min n (length (front ++ rest)) = f ∙ ap (λ (l : List X). min n (length l)) e in
     let some : 0 < length (front ++ rest) = omega (arith, ap length e) in
     ap (pieces n) e ∙ pieces-cons n (front ++ rest) p some
-        ∙ (cc (front_is n front rest size, rest_is n front rest size))
+    ∙ (cc (front_is n front rest size, rest_is n front rest size))
 
 -- the pieces joined are the list
 flat_within : {X : Type 0} (a n : ℕ) (xs : List X) → 0 < n → length xs ≤ a → flat_map (λ p. p) (pieces_within a n xs) ≡ xs
@@ -77,16 +77,16 @@ flat_map-pieces {X} n xs p = flat_within (length xs) n xs p (omega arith)
 -- one piece more
 ceil_more : (n len : ℕ) → 0 < n → 0 < len → suc (div_ceil (len - n) n) ≡ div_ceil len n
 ceil_more n len p f = elim (cases_lt len n) [
-      | inl short ↦
-          let none : len - n ≡ 0 = omega arith in
-          let over : len % n ≡ len = mod-eq_of_lt short in
-          let whole : len / n ≡ 0 = div-eq_of_lt short in
-          rw (none, zero-div, zero-mod, over, whole) (omega arith)
-      | inr long ↦
-          let over : len % n ≡ (len - n) % n = mod-eq-sub-mod long in
-          let whole : len / n ≡ (len - n) / n + 1 = div-eq-sub-div p long in
-          rw (over, whole) (omega arith)
-    ]
+  | inl short ↦
+      let none : len - n ≡ 0 = omega arith in
+      let over : len % n ≡ len = mod-eq_of_lt short in
+      let whole : len / n ≡ 0 = div-eq_of_lt short in
+      rw (none, zero-div, zero-mod, over, whole) (omega arith)
+  | inr long ↦
+      let over : len % n ≡ (len - n) % n = mod-eq-sub-mod long in
+      let whole : len / n ≡ (len - n) / n + 1 = div-eq-sub-div p long in
+      rw (over, whole) (omega arith)
+]
 
 -- how many pieces there are
 count_within : {X : Type 0} (a n : ℕ) (xs : List X) → 0 < n → length xs ≤ a → length (pieces_within a n xs) ≡ div_ceil (length xs) n
@@ -97,7 +97,7 @@ count_within {X} (suc a) n [] p f = rw (zero-div, zero-mod)
 count_within {X} (suc a) n (x ∷ xs) p f =
     let shorter : length (drop n (x ∷ xs)) ≤ a = omega (arith, length-drop n (x ∷ xs)) in
     ap (λ (m : ℕ). suc m) (count_within a n (drop n (x ∷ xs)) p shorter ∙ ap (λ (m : ℕ). div_ceil m n) (length-drop n (x ∷ xs)))
-        ∙ ceil_more n (length (x ∷ xs)) p (omega arith)
+    ∙ ceil_more n (length (x ∷ xs)) p (omega arith)
 
 pub length-pieces : {X : Type 0} (n : ℕ) (xs : List X) → 0 < n → length (pieces n xs) ≡ div_ceil (length xs) n
 length-pieces {X} n xs p = count_within (length xs) n xs p (omega arith)
@@ -116,6 +116,6 @@ pieces-append {X} (suc m) n front rest p e =
     let after : drop n (front ++ rest) ≡ drop n front ++ rest = drop-append-le n front rest within in
     let others : pieces n (drop n front ++ rest) ≡ pieces n (drop n front) ++ pieces n rest = pieces-append m n (drop n front) rest p left in
     pieces-cons n (front ++ rest) p all_some
-        ∙ ap (λ (l : List X). l ∷ pieces n (drop n (front ++ rest))) first
-        ∙ ap (λ (l : List (List X)). take n front ∷ l) (ap (pieces n) after ∙ others)
-        ∙ ap (λ (l : List (List X)). l ++ pieces n rest) (sym (pieces-cons n front p some))
+    ∙ ap (λ (l : List X). l ∷ pieces n (drop n (front ++ rest))) first
+    ∙ ap (λ (l : List (List X)). take n front ∷ l) (ap (pieces n) after ∙ others)
+    ∙ ap (λ (l : List (List X)). l ++ pieces n rest) (sym (pieces-cons n front p some))

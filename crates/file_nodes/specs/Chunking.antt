@@ -2,20 +2,13 @@
 use Rattle.std.specs.Prelude.{ℕ, zero, suc, ◌+◌, List, [], ◌∷◌, ◌++◌, length, map, nat_le, if◌then◌else◌}
 use Rattle.std.specs.List.{flat_map}
 use Rattle.sha2.specs.Sha256.{sha256}
-use Rattle.compact_values.specs.Compact.{little_endian}
-use Rattle.compact_values.specs.Items.{item}
 use Rattle.compact_values.specs.declared.guid.Guid.{Guid}
 use Rattle.compact_values.specs.declared.ids.ExGuid.{ExGuid}
 use Rattle.compact_values.specs.declared.ids.ExGuid.TheVariants.{Id}
-use Rattle.stream_objects.specs.Written.{simple_object, compound_object}
 use Rattle.doc_model.specs.declared.element.Object.{Object}
 use Rattle.doc_model.specs.declared.element.Content.TheVariants.{Inline}
+use Rattle.doc_model.specs.Nodes.{node_bytes}
 use Rattle.file_nodes.specs.Pieces.{pieces}
-
--- The bytes of a node (MS-FSSHTTPD 2.2.2 and 2.2.3): 1F for an intermediate node, 20 for a root, compound, with 21, signature: binary
--- item, and 22, data size: 8 bytes.
-abbrev pub node_bytes : ℕ → List ℕ → ℕ → List ℕ
-node_bytes kind signature size = compound_object kind [] (simple_object 0x21 (item signature) ++ simple_object 0x22 (little_endian 8 size))
 
 -- an object that has its bytes with it
 abbrev pub inline : Guid → ℕ → List ExGuid → List ℕ → Object
@@ -64,9 +57,9 @@ levels_within zero guid value level = record { all = level; top = level }
 levels_within (suc count) guid value level =
     if nat_le (length level) 64 then record { all = level; top = level }
     else
-      let next = value + length level in
-      let above = levels_within count guid next (numbered (node 0x1F guid) next (pieces 64 level)) in
-      record { all = level ++ above.all; top = above.top }
+    let next = value + length level in
+    let above = levels_within count guid next (numbered (node 0x1F guid) next (pieces 64 level)) in
+    record { all = level ++ above.all; top = above.top }
 
 -- the leaves of a file: its bytes in pieces of 65,536, and none of an empty file
 abbrev pub leaves : List ℕ → Guid → ℕ → List Part

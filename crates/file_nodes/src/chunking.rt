@@ -1,6 +1,7 @@
 //! A file cut into the objects and data elements by which it is saved (MS-FSSHTTPD 2.4).
 
-ghost use Rattle.std.specs.Prelude.{◌≡◌, ◌≤◌, length, IfOk};
+ghost use Rattle.std.specs.Prelude.{◌≡◌, ◌≤◌, length, IfOk, Some};
+ghost use Rattle.doc_model.specs.Files.{file};
 ghost use Rattle.file_nodes.specs.Chunks.{chunked};
 
 use crate::file_elements::file_elements;
@@ -24,7 +25,9 @@ pub fn chunk(alloc: Global, bytes: &[u8], guid: Guid, first: u32) -> Result<Chun
     requires short { length bytes.now ≤ 16777216 }
     requires positive { 1 ≤ first }
     requires room { first ≤ 4000000000 }
-    ensures { IfOk result (λ c. c ≡ chunked bytes.now guid first) }
+    ensures chunked { IfOk result (λ c. c ≡ chunked bytes.now guid first) }
+    // From the index the elements have the file again.
+    ensures file { IfOk result (λ c. file c.elements c.index ≡ Some bytes.now) }
 {
     let objects = file_objects(alloc, bytes, guid, first + 6)?;
     let used = 6 + objects.len() as u32;

@@ -160,12 +160,7 @@ pub fn file_elements(
 }
 
 /// Adds an element with this id at the end.
-fn push_element(
-    elements: &mut Elements,
-    guid: Guid,
-    value: u32,
-    body: Body,
-) -> Result<(), NoMemory>
+fn push_element(elements: &mut Elements, guid: Guid, value: u32, body: Body) -> Result<(), NoMemory>
     ensures { OnOk result (elements.new ≡ elements.old ++ record { id = id_of guid value; body = body } ∷ []) }
 {
     elements.push(Element {

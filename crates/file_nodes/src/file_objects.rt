@@ -7,9 +7,10 @@ ghost use Rattle.sha2.specs.Sha256.{sha256};
 ghost use Rattle.compact_values.specs.Compact.{little_endian};
 ghost use Rattle.compact_values.specs.Items.{item};
 ghost use Rattle.stream_objects.specs.Written.{simple_object};
+ghost use Rattle.doc_model.specs.Nodes.{node_bytes};
 ghost use Rattle.file_nodes.specs.Pieces.{pieces};
 ghost use Rattle.file_nodes.specs.Chunks.{id_of};
-ghost use Rattle.file_nodes.specs.Chunking.{node_bytes, inline, node, numbered, objects_of, ids_of, leaves, levels, file_objects};
+ghost use Rattle.file_nodes.specs.Chunking.{inline, node, numbered, objects_of, ids_of, leaves, levels, file_objects};
 
 use compact_values::{ExGuid, Guid, Ids, NoMemory, Octets, Seq, append_low_bytes, write_item};
 use doc_model::{Content, Object, Objects};
@@ -52,6 +53,7 @@ fn append_size(alloc: Global, out: &mut Octets, size: u64) -> Result<(), NoMemor
 }
 
 /// The bytes of a node over these bytes of the file.
+#[tactic(auto, unfolding(doc_model::specs::Nodes::node_bytes))]
 fn node_bytes(alloc: Global, kind: u16, file: &[u8]) -> Result<Octets, NoMemory>
     requires { kind ≤ 63 }
     ensures { IfOk result (λ bytes. bytes ≡ node_bytes kind (sha256 file.now) (length file.now)) }
@@ -210,12 +212,7 @@ fn push_levels(
 }
 
 /// The objects of a file, with values from `first` on: the root node, the leaves in order, then the intermediate nodes.
-pub fn file_objects(
-    alloc: Global,
-    file: &[u8],
-    guid: Guid,
-    first: u32,
-) -> Result<Objects, NoMemory>
+pub fn file_objects(alloc: Global, file: &[u8], guid: Guid, first: u32) -> Result<Objects, NoMemory>
     requires short { length file.now ≤ 16777216 }
     requires room { first ≤ 4000000006 }
     ensures objects { IfOk result (λ objects. objects ≡ file_objects file.now guid first) }

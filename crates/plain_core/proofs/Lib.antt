@@ -1,0 +1,2 @@
+pub mod AlongBases
+pub mod FoundPlaces

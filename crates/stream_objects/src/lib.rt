@@ -19,7 +19,7 @@ mod written;
 
 pub use fault::TreeFault;
 pub use headers::{finish, start};
-pub use objects::{compound_fields, has_no_child, only_child, simple_fields};
+pub use objects::{compound_fields, fields_of, has_no_child, only_child, simple_fields};
 pub use reading::read_tree;
 pub use tree::{Tree, Trees};
 pub use written::begin;

@@ -7,8 +7,8 @@ ghost use Rattle.stream_objects.specs.Objects.{fields_of, children_of, is_kind};
 
 use crate::tree::Tree;
 
-// The bytes of an object's fields, as far as the input has them.
-fn fields_of<'a>(bytes: &'a [u8], tree: &Tree) -> &'a [u8]
+/// The bytes of an object's fields in the input that it was read from, whether it is compound or not.
+pub fn fields_of<'a>(bytes: &'a [u8], tree: &Tree) -> &'a [u8]
     ensures { result.now ≡ fields_of bytes.now tree.now }
 {
     let from = tree.fields.from.min(bytes.len());

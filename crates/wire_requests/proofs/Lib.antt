@@ -1,0 +1,7 @@
+mod WalkFinds
+mod WalkLaws
+mod ReaderAnswers
+mod Splits
+mod SubLaws
+mod RequestLaws
+mod OneAnswer

@@ -1,0 +1,3 @@
+pub mod WalkReading
+pub mod RequestReading
+pub mod RequestAnswers

@@ -12,7 +12,7 @@ returns c =
     let root = c.in_ok-node.ensures ∙ root_is bytes guid v c.in_ok-references.references c.requires.short c.in_ok-references.ensures in
     let others = objects_of (levels bytes guid (v + 1)).all in
     let all : c.push_levels.new.objects ≡ file_objects bytes guid v
-        = c.in_ok-push_levels.ensures
-        ∙ ap (λ (l : List Object). l ++ others) (c.in_ok-push.ensures.ok ∙ ap (λ (l : List Object). l ++ c.in_ok-node.field-0 ∷ []) c.new-objects.ensures)
-        ∙ ap (λ (o : Object). o ∷ others) root in
+    = c.in_ok-push_levels.ensures
+    ∙ ap (λ (l : List Object). l ++ others) (c.in_ok-push.ensures.ok ∙ ap (λ (l : List Object). l ++ c.in_ok-node.field-0 ∷ []) c.new-objects.ensures)
+    ∙ ap (λ (o : Object). o ∷ others) root in
     record { objects = all; few = omega (arith, ap length all, length-file_objects bytes guid v c.requires.short) }

@@ -20,8 +20,8 @@ returns-else-leaves c =
     let many : 64 < div_ceil (length bytes) 65536 = omega (arith, counted) in
     let nodes : ℕ → List Object = λ n. objects_of (numbered (node 0x1F guid) (v + n) (pieces 64 (leaves bytes guid v))) in
     let both : c.push_leaves.new.objects ++ nodes c.leaf_count-leaves.result ≡ c.args.objects.now ++ objects_of (levels bytes guid v).all
-        = ap (λ (l : List Object). l ++ nodes c.leaf_count-leaves.result) c.in_ok-push_leaves.ensures
-        ∙ append_assoc c.args.objects.now (objects_of (leaves bytes guid v)) (nodes c.leaf_count-leaves.result)
-        ∙ ap (λ (n : ℕ). c.args.objects.now ++ (objects_of (leaves bytes guid v) ++ nodes n)) counted
-        ∙ ap (λ (l : List Object). c.args.objects.now ++ l) (sym (all-many bytes guid v many c.requires.short)) in
+    = ap (λ (l : List Object). l ++ nodes c.leaf_count-leaves.result) c.in_ok-push_leaves.ensures
+    ∙ append_assoc c.args.objects.now (objects_of (leaves bytes guid v)) (nodes c.leaf_count-leaves.result)
+    ∙ ap (λ (n : ℕ). c.args.objects.now ++ (objects_of (leaves bytes guid v) ++ nodes n)) counted
+    ∙ ap (λ (l : List Object). c.args.objects.now ++ l) (sym (all-many bytes guid v many c.requires.short)) in
     on_ok_is c.push_nodes.result c.push_nodes.new.objects _ _ c.push_nodes.ensures both

@@ -28,7 +28,7 @@ loop-bytes-preserved c =
     let few : count ≤ length front = omega (arith, counted, size, steps.1.2) in
     let made = (node 0x1F guid v (leaves front guid leaf)).object in
     let object : c.in_ok-node.field-0 ≡ made
-        = c.in_ok-node.ensures ∙ node_over_leaves 0x1F guid leaf v count c.in_ok-references.references front c.in_ok-references.ensures counted in
+    = c.in_ok-node.ensures ∙ node_over_leaves 0x1F guid leaf v count c.in_ok-references.references front c.in_ok-references.ensures counted in
     let others : of (div_ceil (length front) 65536) ≡ of count = ap of (sym counted) in (
       search rules,
       tt,
@@ -44,5 +44,5 @@ pub returns : goal.returns
 returns c =
     let left = chunks_rest c.loop-bytes.bytes-iterator in
     let none : objects_of (numbered (node 0x1F c.args.guid) c.loop-bytes.value (pieces 64 (leaves left c.args.guid c.loop-bytes.leaf))) ≡ _
-        = ap objects_of (nodes-nil 0x1F c.args.guid c.loop-bytes.leaf c.loop-bytes.value left c.in-None.ensures.steps.1.0) in
+    = ap objects_of (nodes-nil 0x1F c.args.guid c.loop-bytes.leaf c.loop-bytes.value left c.in-None.ensures.steps.1.0) in
     sym (append-nil c.loop-bytes.objects) ∙ ap (λ (l : List Object). c.loop-bytes.objects ++ l) (sym none) ∙ c.loop-bytes.invariant.6

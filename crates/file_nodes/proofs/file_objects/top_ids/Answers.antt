@@ -20,4 +20,4 @@ returns-else-leaves c =
     let ids : ℕ → ℕ → List ExGuid = λ n m. map (id_of c.args.guid) (range_with_len (c.args.first + n) m) in
     ok_is _ _ _ c.consecutive_ids-else-leaves.ensures
     (ap (λ (n : ℕ). ids n c.div_ceil.result) counted ∙ ap (ids (div_ceil (length c.args.file.now) 65536)) c.div_ceil.ensures
-        ∙ sym (top-many c.args.file.now c.args.guid c.args.first many c.requires.short))
+    ∙ sym (top-many c.args.file.now c.args.guid c.args.first many c.requires.short))

@@ -1,0 +1,86 @@
+// A list of extended GUIDs that finds an id without looking through the list.
+ghost use Rattle.std.specs.Prelude.{◌≡◌, [], ◌∷◌, ◌++◌, OnOk, OnErr};
+ghost use Rattle.std.specs.List.{list_any};
+ghost use Rattle.compact_values.specs.IdPlaces.{place_of, key_of};
+ghost use Rattle.compact_values.specs.SameIds.{same_id};
+
+use crate::fault::NoMemory;
+use crate::ids::{ExGuid, Ids};
+use crate::seq::Seq;
+use std::alloc::Global;
+use std::collections::HashMap;
+use std::marker::Model;
+
+/// A list of extended GUIDs that finds the first place of an id without looking through the list.
+#[derive(Drop)]
+pub struct IdIndex {
+    ids: Ids,
+    places: HashMap<Option<(u128, u32)>, usize>,
+}
+
+impl Model for IdIndex {
+    ghost use Rattle.std.specs.Prelude.{List};
+    ghost use Rattle.compact_values.specs.declared.ids.ExGuid.{ExGuid};
+    ghost use Rattle.compact_values.specs.IdPlaces.{HasPlaces};
+
+    ghost Value = { List ExGuid };
+
+    ghost view = { λ s. s.ids };
+
+    ghost invariant = { λ s. HasPlaces s.ids s.places };
+}
+
+// An id as a key.
+fn key_of(id: ExGuid) -> Option<(u128, u32)>
+    ensures { result ≡ key_of id }
+{
+    match id {
+        ExGuid::Null => None,
+        ExGuid::Id { guid, value } => Some((guid.number, value)),
+    }
+}
+
+impl IdIndex {
+    /// No ids.
+    pub fn new(alloc: Global) -> IdIndex
+        ensures { result ≡ [] }
+    {
+        IdIndex {
+            ids: Seq::new(alloc),
+            places: HashMap::new(alloc),
+        }
+    }
+
+    /// The first place of the id, None exactly where it isn't in the list. It takes no memory.
+    pub fn place(&self, id: ExGuid) -> Option<usize>
+        ensures { result ≡ place_of self.now id }
+    {
+        self.places.get(&key_of(id)).copied()
+    }
+
+    /// Whether the id is in the list. It takes no memory.
+    pub fn contains(&self, id: ExGuid) -> bool
+        ensures { result ≡ list_any (same_id id) self.now }
+    {
+        self.place(id).is_some()
+    }
+
+    /// Adds the id at the end, or leaves the list as it was.
+    pub fn push(&mut self, id: ExGuid) -> Result<(), NoMemory>
+        ensures ok { OnOk result (self.new ≡ self.old ++ id ∷ []) }
+        ensures err { OnErr result (self.new ≡ self.old) }
+    {
+        let place = self.ids.len();
+        self.ids.push(id)?;
+        if self.places.contains_key(&key_of(id)) {
+            return Ok(());
+        }
+        match self.places.insert(key_of(id), place) {
+            Ok(_) => Ok(()),
+            Err(_) => {
+                self.ids.truncate(place);
+                Err(NoMemory)
+            }
+        }
+    }
+}

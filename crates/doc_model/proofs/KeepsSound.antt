@@ -1,0 +1,174 @@
+-- Every call that may be made leaves a document sound.
+use Rattle.std.proofs.Common.{◌≡◌, ◌≢◌, ℕ, ◌+◌, ◌≤◌, refl, sym, ◌∙◌, ap, Bool, true, false, not, ◌&&◌, ◌||◌, cond, List, [], ◌∷◌, ◌++◌, map, length, nat_le, nat_lt, Option, Some, None, arith}
+use Rattle.std.specs.Prelude.{is_some, is_none}
+use Rattle.std.proofs.lemmas.Bool.Decides.{nat_tests}
+use Rattle.std.proofs.lemmas.List.{append-nil}
+use Rattle.std.proofs.lemmas.List.Elements.{All-from_recursion, recursion_from_All, All-append, All-nil, All-push, All-weaker}
+use Rattle.std.specs.List.{AllByRecursion as Each, All, IsDistinct, list_all}
+use Rattle.compact_values.specs.declared.guid.Guid.{Guid}
+use Rattle.compact_values.specs.declared.ids.ExGuid.TheVariants.{Null}
+use Rattle.doc_model.specs.declared.call.Call.{Call}
+use Rattle.doc_model.specs.declared.call.Put.{Put}
+use Rattle.doc_model.specs.declared.call.Sub.{Sub}
+use Rattle.doc_model.specs.declared.call.Sub.TheVariants as sub
+use Rattle.doc_model.specs.declared.doc.Doc.{Doc}
+use Rattle.doc_model.specs.declared.doc.Commit.{Commit}
+use Rattle.doc_model.specs.declared.element.Element.{Element}
+use Rattle.doc_model.specs.declared.reply.Code.{Code}
+use Rattle.doc_model.specs.Apply.{apply, by_kind, empty_doc}
+use Rattle.doc_model.specs.Drawing.{draw, can_draw, last_number}
+use Rattle.doc_model.specs.Files.{file}
+use Rattle.doc_model.specs.Laws.{KeepsSound, EmptyIsSound}
+use Rattle.doc_model.specs.Limits.{most_added, most_added_weight, most_objects}
+use Rattle.doc_model.specs.Puts.{put, is_part, part_refusal, part_reasons, commit_refusal, commit_reasons, kept, committed, sent_to, added_by, fresh, other_parts, has_invalid, too_many_parts, too_much_added, is_committed, has_chains, too_large}
+use Rattle.doc_model.specs.Reached.{absent}
+use Rattle.doc_model.specs.Sound.{IsSoundElement, IsSoundCommit, AreSoundParts, Sound, IsValidSub, Valid}
+use Rattle.doc_model.specs.Turns.{Turn, first_refusal, refused, unless}
+use Rattle.doc_model.specs.Weights.{objects_written, weight_of}
+use Rattle.doc_model.proofs.Distinct.{distinct-none}
+use Rattle.doc_model.proofs.EachItem.{each-as}
+use Rattle.doc_model.proofs.OnStored.{NoneHolds, none-holds, and-both, or-neither}
+use Rattle.doc_model.proofs.SoundCommits.{commit-later, commit-new, distinct-commits}
+use Rattle.doc_model.proofs.SoundElements.{IsOwned, each-fresh, each-owned, each-sound, element-later, distinct-added, fresh-new, not-less}
+use Rattle.doc_model.proofs.SoundParts.{others-sound, parts-later, sent-few, with-part}
+
+-- a turn by a test, and one that may be refused
+either : (b : Bool) (x y : Turn) → (b ≡ true → Sound x.doc) → Sound y.doc → Sound (cond b x y).doc
+either b x y p q = at b refl
+  where
+    at : (c : Bool) → b ≡ c → Sound (cond c x y).doc
+    at true e = p e
+    at false e = q
+
+unless-refused : (reasons : List (Bool × Code)) (doc : Doc) (done : Turn) → Sound doc → (NoneHolds reasons → Sound done.doc) → Sound (unless (first_refusal reasons) doc done).doc
+unless-refused reasons doc done s p = at (first_refusal reasons) refl
+  where
+    at : (o : Option Code) → first_refusal reasons ≡ o → Sound (unless o doc done).doc
+    at None e = p (none-holds reasons e)
+    at (Some c) e = s
+
+-- nothing new is added
+commit-same : (d d' : Doc) → d'.added ≡ d.added → (c : Commit) → IsSoundCommit d c → IsSoundCommit d' c
+commit-same d d' e c s = commit-later d d' [] (e ∙ sym (append-nil d.added)) tt c s
+
+commits-same : (d d' : Doc) → d'.added ≡ d.added → (cs : List Commit) → All (IsSoundCommit d) cs → All (IsSoundCommit d') cs
+commits-same d d' e cs s = All-weaker (IsSoundCommit d) (IsSoundCommit d') (commit-same d d' e) cs s
+
+elements-later : (d d' : Doc) → d'.guid ≡ d.guid → d.drawn ≤ d'.drawn → (es : List Element) → All (IsSoundElement d) es → All (IsSoundElement d') es
+elements-later d d' g le es s = All-weaker (IsSoundElement d) (IsSoundElement d') (element-later d d' g le) es s
+
+-- a draw
+within : (drawn count most : ℕ) → (nat_le 1 count && nat_le count 100_000 && nat_le (drawn + count) most) ≡ true → drawn + count ≤ most
+within drawn count most h = at (and-both (nat_le 1 count && nat_le count 100_000) (nat_le (drawn + count) most) h).1
+  where
+    at : nat_le (drawn + count) most ≡ true → drawn + count ≤ most
+    at e = grind (arith, nat_tests)
+
+module _ (doc : Doc) (s : Sound doc) where
+  draw-sound : (count : ℕ) → Sound (draw doc count).doc
+  draw-sound count =
+      either (can_draw doc count) _ _
+      (λ h. record {
+        drawn = within doc.drawn count last_number h;
+        few_added = s.few_added;
+        light_added = s.light_added;
+        no_null = s.no_null;
+        distinct_ids = s.distinct_ids;
+        added = elements-later doc (record doc { drawn = doc.drawn + count }) refl (omega arith) doc.added s.added;
+        distinct_commits = s.distinct_commits;
+        commits = commits-same doc (record doc { drawn = doc.drawn + count }) refl doc.commits s.commits;
+        parts = parts-later doc (record doc { drawn = doc.drawn + count }) refl (omega arith) doc.parts s.parts;
+        members = s.members;
+        editors = s.editors;
+      })
+      s
+
+  module _ (moment : ℕ) (user : List ℕ) (p : Put) (few : All (λ e. objects_written e ≤ most_objects) p.elements) where
+    abbrev es : List Element
+    es = sent_to doc p
+
+    es-sound : has_invalid doc.guid doc.drawn doc.added es ≡ false → Each (IsSoundElement doc) es
+    es-sound h = each-sound doc es (each-owned doc es h) (sent-few doc doc.parts p s.parts few)
+
+    -- a part
+    abbrev after-part : Doc
+    after-part = (kept doc moment p).doc
+
+    kept-sound : has_invalid doc.guid doc.drawn doc.added es ≡ false → too_many_parts (other_parts doc.parts moment p.index) es ≡ false → Sound after-part
+    kept-sound valid room = record {
+      drawn = s.drawn;
+      few_added = s.few_added;
+      light_added = s.light_added;
+      no_null = s.no_null;
+      distinct_ids = s.distinct_ids;
+      added = elements-later doc after-part refl (omega arith) doc.added s.added;
+      distinct_commits = s.distinct_commits;
+      commits = commits-same doc after-part refl doc.commits s.commits;
+      parts = parts-later doc after-part refl (omega arith) after-part.parts
+          (with-part doc doc.parts (record { index = p.index; elements = es; moment = moment }) moment s.parts (All-from_recursion (IsSoundElement doc) es (es-sound valid)) room);
+      members = s.members;
+      editors = s.editors;
+    }
+
+    -- a commit
+    abbrev new : List Element
+    new = fresh doc.added es
+
+    abbrev after : Doc
+    after = (committed doc moment user p).doc
+
+    abbrev commit : Commit
+    commit = record { index = p.index; moment = moment; user = user }
+
+    committed-sound : NoneHolds (commit_reasons doc moment p es (added_by doc p)) → Sound after
+    committed-sound none =
+        let valid : has_invalid doc.guid doc.drawn doc.added es ≡ false = none.1.0 in
+        let room = or-neither (nat_lt most_added (length (added_by doc p))) (nat_lt most_added_weight (weight_of (added_by doc p))) none.1.1.0 in
+        record {
+          drawn = s.drawn;
+          few_added = not-less most_added (length (added_by doc p)) room.0;
+          light_added = not-less most_added_weight (weight_of (added_by doc p)) room.1;
+          no_null = All-append (λ e. e.id ≢ Null) doc.added new s.no_null
+              (All-from_recursion (λ e. e.id ≢ Null) new (each-as (λ e. IsOwned doc e.id) (λ e. e.id ≢ Null) new (λ e o. o.1) (each-fresh (λ e. IsOwned doc e.id) doc.added es (each-owned doc es valid))));
+          distinct_ids = distinct-added doc.added es s.distinct_ids;
+          added = elements-later doc after refl (omega arith) (added_by doc p)
+              (All-append (IsSoundElement doc) doc.added new s.added
+              (All-from_recursion (IsSoundElement doc) new (each-fresh (IsSoundElement doc) doc.added es (es-sound valid))));
+          distinct_commits = distinct-commits doc.commits commit none.1.1.1.1.0 s.distinct_commits;
+          commits = All-push (IsSoundCommit after) doc.commits commit
+              (All-weaker (IsSoundCommit doc) (IsSoundCommit after) (commit-later doc after new refl (fresh-new doc.added es)) doc.commits s.commits)
+              (commit-new after commit none.1.1.1.1.1.0 none.1.1.1.1.1.1.0 none.1.1.1.1.1.1.1.0);
+          parts = parts-later doc after refl (omega arith) (other_parts doc.parts moment p.index) (others-sound doc doc.parts moment p.index s.parts);
+          members = s.members;
+          editors = s.editors;
+        }
+
+    put-sound : Sound (put doc moment user p).doc
+    put-sound =
+        either (is_part p) _ _
+        (λ h. unless-refused (part_reasons doc moment p es) doc (kept doc moment p) s (λ none. kept-sound none.1.0 none.1.1.0))
+        (unless-refused (commit_reasons doc moment p es (added_by doc p)) doc (committed doc moment user p) s committed-sound)
+
+  kind-sound : (moment : ℕ) (user : List ℕ) (what : Sub) → IsValidSub what → Sound (by_kind doc moment user what).doc
+  kind-sound moment user sub.Access v = s
+  kind-sound moment user (sub.Pull knowledge) v = s
+  kind-sound moment user (sub.Put p) v = put-sound moment user p v.1
+  kind-sound moment user (sub.Draw count) v = draw-sound count
+
+pub keeps-sound : KeepsSound
+keeps-sound doc call s v = kind-sound doc s call.moment call.user call.sub v.sub
+
+pub empty-sound : EmptyIsSound
+empty-sound guid = record {
+  drawn = omega arith;
+  few_added = omega arith;
+  light_added = omega arith;
+  no_null = All-nil _;
+  distinct_ids = distinct-none _;
+  added = All-nil _;
+  distinct_commits = distinct-none _;
+  commits = All-nil _;
+  parts = record { few = omega arith; light = omega arith; distinct = distinct-none _; sound = All-nil _ };
+  members = tt;
+  editors = record { few = omega arith; distinct = distinct-none _; few_keys = All-nil _; distinct_keys = All-nil _ };
+}

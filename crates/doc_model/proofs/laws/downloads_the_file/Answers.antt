@@ -1,0 +1,8 @@
+use Rattle.doc_model.proofs.Download.{downloads, downloads-nothing}
+use Rattle.doc_model.proofs.laws.downloads_the_file.Goals as goal
+
+pub returns-clause-file : goal.returns-clause-file
+returns-clause-file c = downloads
+
+pub returns-clause-nothing : goal.returns-clause-nothing
+returns-clause-nothing c = downloads-nothing

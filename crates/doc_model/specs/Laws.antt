@@ -1,0 +1,74 @@
+-- What holds of every document and every call.
+use Rattle.std.specs.Prelude.{◌≡◌, ◌≢◌, ◌⊎◌, ℕ, Bool, true, false, IsTrue, List, [], ◌++◌, map, Some}
+use Rattle.doc_model.specs.declared.call.Call.{Call}
+use Rattle.doc_model.specs.declared.call.Put.{Put}
+use Rattle.doc_model.specs.declared.doc.Doc.{Doc}
+use Rattle.doc_model.specs.declared.doc.Commit.{Commit}
+use Rattle.compact_values.specs.declared.guid.Guid.{Guid}
+use Rattle.compact_values.specs.declared.ids.ExGuid.{ExGuid}
+use Rattle.compact_values.specs.declared.ids.ExGuid.TheVariants.{Null}
+use Rattle.std.specs.List.{list_all, slice_get}
+use Rattle.doc_model.specs.declared.element.Element.{Element}
+use Rattle.doc_model.specs.Files.{file}
+use Rattle.doc_model.specs.Reached.{names}
+use Rattle.doc_model.specs.Apply.{apply, empty_doc}
+use Rattle.doc_model.specs.Pulls.{stored_index, pull}
+use Rattle.doc_model.specs.declared.reply.Reply.{Reply}
+use Rattle.doc_model.specs.declared.reply.Reply.TheVariants.{Pulled}
+use Rattle.doc_model.specs.Puts.{put}
+use Rattle.doc_model.specs.Sound.{Sound, Valid}
+
+-- A call that doesn't move leaves the document equal.
+abbrev pub UnmovedIsEqual : Type 0
+UnmovedIsEqual = (doc : Doc) (call : Call) → (apply doc call).moved ≡ false → (apply doc call).doc ≡ doc
+
+-- the index that a put expects is the stored one, or it takes any for null and nothing was committed
+abbrev pub ExpectsStored : Doc → Put → Type 0
+ExpectsStored doc p = (p.expected ≡ stored_index doc.commits) ⊎ ((p.imply_null ≡ true) × (doc.commits ≡ []))
+
+-- Where a put that doesn't win as the last writer changes the commits, it expected the stored index.
+abbrev pub CommitsOnStored : Type 0
+CommitsOnStored =
+    (doc : Doc) (moment : ℕ) (user : List ℕ) (p : Put) → p.last_writer_wins ≡ false → (put doc moment user p).doc.commits ≢ doc.commits
+    → ExpectsStored doc p
+
+-- Of a document that is kept, commits with one index are one commit.
+abbrev pub OneCommitOfIndex : Type 0
+OneCommitOfIndex =
+    (doc : Doc) (i j : ℕ) (a b : Commit) → Sound doc → slice_get doc.commits i ≡ Some a → slice_get doc.commits j ≡ Some b → a.index ≡ b.index → i ≡ j
+
+-- Where all that an index names is there, elements that are added later change nothing of it.
+abbrev pub AllNamed : List Element → ExGuid → Type 0
+AllNamed added index = IsTrue (list_all (λ n. n.found) (names added index))
+
+abbrev pub NamesStay : Type 0
+NamesStay = (added more : List Element) (index : ExGuid) → AllNamed added index → names (added ++ more) index ≡ names added index
+
+abbrev pub FileStays : Type 0
+FileStays = (added more : List Element) (index : ExGuid) → AllNamed added index → file (added ++ more) index ≡ file added index
+
+-- the index and the elements that a pull answers
+abbrev pub pulled_index : Reply → ExGuid
+pulled_index (Pulled guid index elements knowledge) = index
+pulled_index _ = Null
+
+abbrev pub pulled_elements : Reply → List Element
+pulled_elements (Pulled guid index elements knowledge) = map (λ e. e.element) elements
+pulled_elements _ = []
+
+-- What a client that knows nothing is sent has, alone, the file that the document has at the index which is answered.
+abbrev pub DownloadsTheFile : Type 0
+DownloadsTheFile =
+    (doc : Doc) → doc.commits ≢ []
+    → file (pulled_elements (pull doc [])) (pulled_index (pull doc [])) ≡ file doc.added (pulled_index (pull doc []))
+
+-- Without a commit the answered index is null, and no element is sent.
+abbrev pub DownloadsNothing : Type 0
+DownloadsNothing = (doc : Doc) → doc.commits ≡ [] → (pulled_index (pull doc []) ≡ Null) × (pulled_elements (pull doc []) ≡ [])
+
+-- Every call that may be made leaves a sound document sound, and a document without anything is sound.
+abbrev pub KeepsSound : Type 0
+KeepsSound = (doc : Doc) (call : Call) → Sound doc → Valid call → Sound (apply doc call).doc
+
+abbrev pub EmptyIsSound : Type 0
+EmptyIsSound = (guid : Guid) → Sound (empty_doc guid)

@@ -1,0 +1,32 @@
+//! Laws of the definitions: each function's contract is one, and it does nothing.
+ghost use Rattle.doc_model.specs.Laws.{UnmovedIsEqual, CommitsOnStored, OneCommitOfIndex, NamesStay, FileStays, DownloadsTheFile, DownloadsNothing, KeepsSound, EmptyIsSound};
+
+/// A call that doesn't move leaves the document equal.
+pub fn unmoved_leaves_the_document()
+    ensures { UnmovedIsEqual }
+{}
+
+/// A put that doesn't win as the last writer commits on the stored index alone, and an index is that of one commit.
+pub fn commits_on_the_stored_index()
+    ensures expected { CommitsOnStored }
+    ensures one { OneCommitOfIndex }
+{}
+
+/// Elements that are added later change neither what an index names nor its file, where all that it names is there.
+pub fn later_elements_change_nothing()
+    ensures names { NamesStay }
+    ensures file { FileStays }
+{}
+
+/// What a client that knows nothing is sent has, alone, the file that the document has at the answered index; without a
+/// commit it is sent nothing.
+pub fn downloads_the_file()
+    ensures file { DownloadsTheFile }
+    ensures nothing { DownloadsNothing }
+{}
+
+/// Every call that may be made leaves a sound document sound, and a document without anything is sound.
+pub fn every_call_keeps_sound()
+    ensures kept { KeepsSound }
+    ensures empty { EmptyIsSound }
+{}

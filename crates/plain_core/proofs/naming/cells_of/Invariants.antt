@@ -1,0 +1,8 @@
+use Rattle.std.proofs.Common.{◌≡◌, ◌++◌, drop, map, flat_map, fold, []}
+use Rattle.doc_model.specs.Reached.{groups_of, blobs_of, blob_of, same_cells, current_of}
+use Rattle.doc_model.specs.Finding.{firsts, with_new}
+use Rattle.plain_core.proofs.naming.cells_of.Given as goal
+
+-- what is there, and what is still to be done
+abbrev pub invariant-loop-c : goal.invariant-loop-c
+invariant-loop-c l = fold (with_new same_cells) l.kept (drop l.c-index l.cells) ≡ firsts same_cells l.cells

@@ -1,0 +1,15 @@
+use Rattle.std.proofs.Common.{◌≡◌, ◌∙◌, ap}
+use Rattle.doc_model.specs.Pulls.{pulled}
+use Rattle.plain_core.proofs.plain.PlainCore.plan_pull.Goals as goal
+
+pub returns : goal.returns
+returns c =
+    let now = c.args.self.now in
+    let known = c.args.known.now in
+    record {
+      moved = c.read.ensures.moved;
+      reply = c.read.ensures.reply ∙ c.in_ok-reply.ensures
+        ∙ ap (λ added. pulled now.guid added c.as_slice-commits.result.now known) c.as_slice-added.ensures.value
+        ∙ ap (λ commits. pulled now.guid now.added.items commits known) c.as_slice-commits.ensures.value;
+      doc = c.read.ensures.doc;
+    }

@@ -1,0 +1,8 @@
+use Rattle.std.proofs.Common.{◌≡◌, ◌+◌, ◌++◌, drop, map, filter}
+use Rattle.doc_model.specs.Finding.{numbered_from}
+use Rattle.doc_model.specs.Pulls.{ranges_after, ranges_of, is_lacking, is_known_then, lacking, known_then}
+use Rattle.plain_core.proofs.pull.lacking.Given as goal
+
+-- what is there, and what is still to be done
+abbrev pub invariant-loop-element : goal.invariant-loop-element
+invariant-loop-element l = (l.serial ≡ l.element-index) × (l.all ++ filter (is_lacking l.guid l.known l.ids) (numbered_from (l.serial + 1) (drop l.element-index l.added)) ≡ lacking l.guid l.known l.ids l.added)

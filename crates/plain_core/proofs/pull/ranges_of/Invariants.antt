@@ -1,0 +1,8 @@
+use Rattle.std.proofs.Common.{◌≡◌, ◌+◌, ◌++◌, drop, map, filter}
+use Rattle.doc_model.specs.Finding.{numbered_from}
+use Rattle.doc_model.specs.Pulls.{ranges_after, ranges_of, is_lacking, is_known_then, lacking, known_then}
+use Rattle.plain_core.proofs.pull.ranges_of.Given as goal
+
+-- what is there, and what is still to be done
+abbrev pub invariant-loop-k : goal.invariant-loop-k
+invariant-loop-k l = l.done ++ ranges_after l.guid l.from l.to (drop l.k-index l.rest) ≡ ranges_of l.guid l.serials

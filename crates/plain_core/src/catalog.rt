@@ -1,0 +1,161 @@
+// The elements of a document, found by their ids, and what they say.
+ghost use Rattle.std.specs.Prelude.{◌≡◌, ◌++◌, map, IfOk, option_map, option_copied, slice_get};
+ghost use Rattle.doc_model.specs.Finding.{find_element, said, as_storage, as_cell, as_group, as_blob, as_index, as_revision};
+
+use crate::sayings::{Manifest, Mappings};
+use compact_values::{ExGuid, IdIndex, NoMemory, Octets, Seq};
+use doc_model::{Body, Element, Elements, Objects, Roots};
+use std::alloc::Global;
+
+/// The elements that a document has, and those that a call adds behind them, found by their ids.
+#[derive(Drop)]
+pub struct Catalog<'a> {
+    added: &'a [Element],
+    fresh: Elements,
+    index: IdIndex,
+    ghost indexed: { index ≡ map (λ e. e.id) (added.now ++ fresh) },
+}
+
+// An index of the ids of these elements.
+fn index_of(alloc: Global, elements: &[Element]) -> Result<IdIndex, NoMemory>
+    ensures { IfOk result (λ index. index ≡ map (λ e. e.id) elements.now) }
+{
+    let mut index = IdIndex::new(alloc);
+    for element in elements {
+        index.push(element.id)?;
+    }
+    Ok(index)
+}
+
+// The element at this place in both together.
+fn at<'a>(added: &'a [Element], fresh: &'a [Element], place: usize) -> Option<&'a Element>
+    ensures { option_copied result ≡ slice_get (added.now ++ fresh.now) place }
+{
+    if place < added.len() {
+        added.get(place)
+    } else {
+        fresh.get(place - added.len())
+    }
+}
+
+impl<'a> Catalog<'a> {
+    ghost use Rattle.plain_core.specs.Cataloging.{listed};
+    ghost use Rattle.plain_core.specs.Sayings.{seen_mappings, seen_manifest};
+
+    /// These elements, with none behind them.
+    pub fn new(alloc: Global, added: &'a [Element]) -> Result<Catalog<'a>, NoMemory>
+        ensures { IfOk result (λ c. listed c ≡ added.now) }
+    {
+        let index = index_of(alloc, added)?;
+        Ok(Catalog {
+            added,
+            fresh: Seq::new(alloc),
+            index,
+        })
+    }
+
+    /// The element with this id.
+    pub fn find(&self, id: ExGuid) -> Option<&Element>
+        ensures { option_copied result ≡ find_element (listed self.now) id }
+    {
+        match self.index.place(id) {
+            None => None,
+            Some(place) => at(self.added, self.fresh.as_slice(), place),
+        }
+    }
+
+    /// The roots of a storage manifest.
+    pub fn storage_at(&self, id: ExGuid) -> Option<&Roots>
+        ensures { option_copied result ≡ said as_storage (listed self.now) id }
+    {
+        match self.find(id) {
+            None => None,
+            Some(element) => match &element.body {
+                Body::Storage { roots, .. } => Some(roots),
+                _ => None,
+            },
+        }
+    }
+
+    /// The current revision of a cell manifest.
+    pub fn cell_at(&self, id: ExGuid) -> Option<ExGuid>
+        ensures { result ≡ said as_cell (listed self.now) id }
+    {
+        match self.find(id) {
+            None => None,
+            Some(element) => match &element.body {
+                Body::Cell { current } => Some(*current),
+                _ => None,
+            },
+        }
+    }
+
+    /// The objects of a group.
+    pub fn group_at(&self, id: ExGuid) -> Option<&Objects>
+        ensures { option_copied result ≡ said as_group (listed self.now) id }
+    {
+        match self.find(id) {
+            None => None,
+            Some(element) => match &element.body {
+                Body::Group { objects } => Some(objects),
+                _ => None,
+            },
+        }
+    }
+
+    /// The bytes of a blob.
+    pub fn blob_at(&self, id: ExGuid) -> Option<&Octets>
+        ensures { option_copied result ≡ said as_blob (listed self.now) id }
+    {
+        match self.find(id) {
+            None => None,
+            Some(element) => match &element.body {
+                Body::Blob { bytes } => Some(bytes),
+                _ => None,
+            },
+        }
+    }
+
+    /// The mappings of an index.
+    pub fn index_at(&self, id: ExGuid) -> Option<Mappings<'_>>
+        ensures { option_map seen_mappings result ≡ said as_index (listed self.now) id }
+    {
+        match self.find(id) {
+            None => None,
+            Some(element) => match &element.body {
+                Body::Index {
+                    manifests,
+                    cells,
+                    revisions,
+                } => Some(Mappings {
+                    manifests,
+                    cells,
+                    revisions,
+                }),
+                _ => None,
+            },
+        }
+    }
+
+    /// What a revision manifest says.
+    pub fn revision_at(&self, id: ExGuid) -> Option<Manifest<'_>>
+        ensures { option_map seen_manifest result ≡ said as_revision (listed self.now) id }
+    {
+        match self.find(id) {
+            None => None,
+            Some(element) => match &element.body {
+                Body::Revision {
+                    base,
+                    roots,
+                    groups,
+                    ..
+                } => Some(Manifest {
+                    base: *base,
+                    roots,
+                    groups,
+                }),
+                _ => None,
+            },
+        }
+    }
+}

@@ -1,0 +1,178 @@
+// A document as its lists.
+ghost use Rattle.std.specs.Prelude.{◌≡◌, IfOk, IsSome, Some};
+ghost use Rattle.doc_model.specs.Apply.{apply, empty_doc, IsPlanned};
+ghost use Rattle.doc_model.specs.Drawing.{draw};
+ghost use Rattle.doc_model.specs.Pulls.{pull};
+ghost use Rattle.doc_model.specs.Sound.{Sound};
+ghost use Rattle.doc_model.specs.Turns.{reading};
+ghost use Rattle.plain_core.specs.Keeping.{doc_of, planned_of};
+
+use crate::pull::pull;
+use compact_values::{Copied, Guid, NoMemory, Seq};
+use doc_model::{
+    Call, Code, Commit, Core, Doc, Editors, Element, LockRecord, Parts, Plan, Range, Reply, Sub,
+};
+use std::alloc::Global;
+
+/// A document as its lists.
+#[derive(Drop)]
+pub struct PlainCore {
+    alloc: Global,
+    guid: Guid,
+    added: Vec<Element>,
+    commits: Vec<Commit>,
+    lock: LockRecord,
+    editors: Editors,
+    parts: Parts,
+    drawn: u64,
+}
+
+/// What a plan changes.
+#[derive(Drop)]
+pub enum Change {
+    /// The document stays as it is.
+    Nothing,
+    /// So many numbers are then drawn.
+    Draw { drawn: u64 },
+}
+
+impl PlainCore {
+    /// An empty document.
+    pub fn new(alloc: Global, guid: Guid) -> Result<PlainCore, NoMemory>
+        ensures { IfOk result (λ core. doc_of core ≡ empty_doc guid) }
+    {
+        Ok(PlainCore {
+            alloc,
+            guid,
+            added: Vec::new(alloc),
+            commits: Vec::new(alloc),
+            lock: LockRecord::Free,
+            editors: Seq::new(alloc),
+            parts: Seq::new(alloc),
+            drawn: 0,
+        })
+    }
+
+    /// This document.
+    pub fn from_doc(alloc: Global, doc: Doc) -> Result<PlainCore, NoMemory>
+        requires { Sound doc }
+        ensures { IfOk result (λ core. doc_of core ≡ doc) }
+    {
+        let Doc {
+            guid,
+            added,
+            commits,
+            lock,
+            editors,
+            parts,
+            drawn,
+        } = doc;
+        Ok(PlainCore {
+            alloc,
+            guid,
+            added: added.into_vec(),
+            commits: commits.into_vec(),
+            lock,
+            editors,
+            parts,
+            drawn,
+        })
+    }
+
+    /// Answers, and leaves the document as it is.
+    fn read(&self, reply: Reply) -> Plan<Change>
+        ensures { IsPlanned (reading (doc_of self.now) reply) result (planned_of self.now result.fresh) }
+    {
+        Plan {
+            moved: false,
+            reply,
+            fresh: Change::Nothing,
+        }
+    }
+
+    /// Answers what a client lacks that knows these ranges.
+    fn plan_pull(&self, known: &[Range]) -> Result<Plan<Change>, NoMemory>
+        ensures { IfOk result (λ p. IsPlanned (reading (doc_of self.now) (pull (doc_of self.now) known.now)) p (planned_of self.now p.fresh)) }
+    {
+        let alloc = self.alloc;
+        let added = self.added.as_slice();
+        let commits = self.commits.as_slice();
+        let reply = pull(alloc, self.guid, added, commits, known)?;
+        Ok(self.read(reply))
+    }
+
+    /// Draws so many numbers.
+    fn plan_draw(&self, count: u64) -> Plan<Change>
+        ensures { IsPlanned (draw (doc_of self.now) count) result (planned_of self.now result.fresh) }
+    {
+        let last = u64::from(u32::MAX);
+        if count >= 1 && count <= 100_000 && self.drawn <= last - count {
+            Plan {
+                moved: true,
+                reply: Reply::Drawn {
+                    guid: self.guid,
+                    least: self.drawn + 1,
+                    greatest: self.drawn + count,
+                },
+                fresh: Change::Draw {
+                    drawn: self.drawn + count,
+                },
+            }
+        } else {
+            self.read(Reply::Refused {
+                code: Code::NotSupported,
+            })
+        }
+    }
+}
+
+impl Core for PlainCore {
+    type Fresh = Change;
+
+    ghost doc = { doc_of };
+
+    ghost planned = { planned_of };
+
+    fn plan(&mut self, call: &Call) -> Result<Plan<Change>, NoMemory> {
+        match &call.sub {
+            Sub::Access => Ok(self.read(Reply::Access)),
+            Sub::Pull { knowledge } => self.plan_pull(knowledge.ranges.as_slice()),
+            Sub::Draw { count } => Ok(self.plan_draw(*count)),
+        }
+    }
+
+    fn settle(&mut self, plan: Plan<Change>) -> Reply
+        requires { IsSome (planned_of self.old plan.fresh) }
+        ensures after { planned_of self.old plan.fresh ≡ Some (doc_of self.new) }
+        ensures reply { result ≡ plan.reply }
+    {
+        let Plan { reply, fresh, .. } = plan;
+        match fresh {
+            Change::Nothing => {}
+            Change::Draw { drawn } => self.drawn = drawn,
+        }
+        reply
+    }
+
+    fn guid(&self) -> Guid {
+        self.guid
+    }
+
+    fn copy(&self, alloc: Global) -> Result<Doc, NoMemory> {
+        Ok(Doc {
+            guid: self.guid,
+            added: copy_all(alloc, self.added.as_slice())?,
+            commits: copy_all(alloc, self.commits.as_slice())?,
+            lock: self.lock.copied(alloc)?,
+            editors: self.editors.copied(alloc)?,
+            parts: self.parts.copied(alloc)?,
+            drawn: self.drawn,
+        })
+    }
+}
+
+fn copy_all<T: Copied>(alloc: Global, items: &[T]) -> Result<Seq<T>, NoMemory>
+    ensures { IfOk result (λ all. all ≡ items.now) }
+{
+    Seq::copied_from(alloc, items)
+}

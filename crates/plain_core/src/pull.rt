@@ -1,0 +1,141 @@
+// Pulls: what a client lacks, and what it knows then.
+ghost use Rattle.std.specs.Prelude.{◌≡◌, ◌+◌, [], ◌∷◌, ◌++◌, IfOk, map, filter};
+ghost use Rattle.doc_model.specs.Reached.{is_among};
+ghost use Rattle.doc_model.specs.Pulls.{knows, ranges_of, stored_index, named_ids, lacking, known_then, pulled};
+
+use crate::catalog::Catalog;
+use crate::naming::names;
+use compact_values::{Copied, ExGuid, Guid, Ids, NoMemory, Seq};
+use doc_model::{Commit, Element, Knowledge, Numbered, NumberedElement, Range, Ranges, Reply};
+use std::alloc::Global;
+
+/// Whether a serial lies in a range of the document.
+fn knows(guid: Guid, ranges: &[Range], serial: u64) -> bool
+    ensures { result ≡ knows guid ranges.now serial }
+{
+    ranges
+        .iter()
+        .any(|r| r.guid.is(guid) && r.from <= serial && serial <= r.to)
+}
+
+/// Rising serials as maximal ranges.
+fn ranges_of(alloc: Global, guid: Guid, serials: &[u64]) -> Result<Ranges, NoMemory>
+    ensures { IfOk result (λ ranges. ranges ≡ ranges_of guid serials.now) }
+{
+    let mut done = Seq::new(alloc);
+    let Some((first, rest)) = serials.split_first() else {
+        return Ok(done);
+    };
+    let mut from = *first;
+    let mut to = *first;
+    for k in rest {
+        if *k > to && *k - to == 1 {
+            to = *k;
+        } else {
+            done.push(Range { guid, from, to })?;
+            from = *k;
+            to = *k;
+        }
+    }
+    done.push(Range { guid, from, to })?;
+    Ok(done)
+}
+
+/// Whether an id is one of these.
+fn is_among(ids: &[ExGuid], id: ExGuid) -> bool
+    ensures { result ≡ is_among ids.now id }
+{
+    ids.iter().any(|other| id.is(*other))
+}
+
+/// The index of the last commit, or null.
+pub fn stored_index(commits: &[Commit]) -> ExGuid
+    ensures { result ≡ stored_index commits.now }
+{
+    match commits.last() {
+        None => ExGuid::Null,
+        Some(commit) => commit.index,
+    }
+}
+
+/// The ids that are named from the stored index.
+fn named_ids(alloc: Global, added: &[Element], commits: &[Commit]) -> Result<Ids, NoMemory>
+    ensures { IfOk result (λ ids. ids ≡ named_ids added.now commits.now) }
+{
+    let mut ids = Seq::new(alloc);
+    if commits.is_empty() {
+        return Ok(ids);
+    }
+    let catalog = Catalog::new(alloc, added)?;
+    let all = names(alloc, &catalog, stored_index(commits))?;
+    for name in all.as_slice() {
+        ids.push(name.id)?;
+    }
+    Ok(ids)
+}
+
+/// The elements that a client lacks.
+fn lacking(
+    alloc: Global,
+    guid: Guid,
+    known: &[Range],
+    ids: &[ExGuid],
+    added: &[Element],
+) -> Result<Numbered, NoMemory>
+    ensures { IfOk result (λ all. all ≡ lacking guid known.now ids.now added.now) }
+{
+    let mut all = Seq::new(alloc);
+    let mut serial = 0;
+    for element in added {
+        serial += 1;
+        if is_among(ids, element.id) && !knows(guid, known, serial) {
+            let element = element.copied(alloc)?;
+            all.push(NumberedElement { serial, element })?;
+        }
+    }
+    Ok(all)
+}
+
+/// The serials that a client knows then.
+fn known_then(
+    alloc: Global,
+    guid: Guid,
+    known: &[Range],
+    ids: &[ExGuid],
+    added: &[Element],
+) -> Result<Seq<u64>, NoMemory>
+    ensures { IfOk result (λ all. all ≡ known_then guid known.now ids.now added.now) }
+{
+    let mut all = Seq::new(alloc);
+    let mut serial = 0;
+    for element in added {
+        serial += 1;
+        if knows(guid, known, serial) || is_among(ids, element.id) {
+            all.push(serial)?;
+        }
+    }
+    Ok(all)
+}
+
+/// What a pull answers.
+pub fn pull(
+    alloc: Global,
+    guid: Guid,
+    added: &[Element],
+    commits: &[Commit],
+    known: &[Range],
+) -> Result<Reply, NoMemory>
+    ensures { IfOk result (λ reply. reply ≡ pulled guid added.now commits.now known.now) }
+{
+    let index = stored_index(commits);
+    let ids = named_ids(alloc, added, commits)?;
+    let elements = lacking(alloc, guid, known, ids.as_slice(), added)?;
+    let serials = known_then(alloc, guid, known, ids.as_slice(), added)?;
+    let ranges = ranges_of(alloc, guid, serials.as_slice())?;
+    Ok(Reply::Pulled {
+        guid,
+        index,
+        elements,
+        knowledge: Knowledge { ranges },
+    })
+}
