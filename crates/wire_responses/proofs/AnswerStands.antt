@@ -75,7 +75,7 @@ some_number None e = absurd cc
 module _ (input : List ℕ) (n : ℕ) where
   -- ---- errors
 
-  error_stands : (number p : ℕ) → number < 2 ^ 32 → At input p (error_object number) → Whole input (suc (suc n)) (λ t. Of 0x4D (IsCellError input) t number) 2 p (p + length (error_object number))
+  pub error_stands : (number p : ℕ) → number < 2 ^ 32 → At input p (error_object number) → Whole input (suc (suc n)) (λ t. Of 0x4D (IsCellError input) t number) 2 p (p + length (error_object number))
   error_stands number p f a =
       let fields = guid_bytes cell_error.number in
       let x = simple_object 0x66 (to_le_bytes w32 number) in

@@ -1,5 +1,5 @@
 -- The written form of a response is read as what its answers say.
-use Rattle.std.proofs.Common.{◌≡◌, ℕ, suc, ◌+◌, ◌^◌, ◌<◌, ◌≤◌, true, List, [], ◌∷◌, ◌++◌, length, map, refl, sym, ap, subst, ◌∙◌, arith}
+use Rattle.std.proofs.Common.{◌≡◌, ℕ, suc, ◌+◌, ◌^◌, ◌<◌, ◌≤◌, true, List, [], ◌∷◌, ◌++◌, length, map, refl, sym, ap, subst, ◌∙◌, inl, arith}
 use Rattle.std.specs.Prelude.{filter}
 use Rattle.std.specs.List.{flat_map, sum_by, AllByRecursion}
 use Rattle.std.proofs.lemmas.List.{length-append, append-nil}
@@ -7,7 +7,7 @@ use Rattle.compact_values.specs.Ids.{FitsGuid}
 use Rattle.compact_values.specs.Sequences.{SpellsByte}
 use Rattle.compact_values.specs.declared.guid.Guid.{Guid}
 use Rattle.compact_values.specs.declared.ids.Serial.TheVariants.{Number}
-use Rattle.stream_objects.specs.Objects.{HasFields, One, Any, kind_of, is_kind}
+use Rattle.stream_objects.specs.Objects.{HasFields, One, Any, kind_of, is_kind, start_of}
 use Rattle.stream_objects.specs.Trees.{IsObject, IsTreeAt}
 use Rattle.stream_objects.specs.Written.{started, compound_object}
 use Rattle.stream_objects.specs.declared.tree.Tree.{Tree}
@@ -15,8 +15,8 @@ use Rattle.stream_objects.specs.declared.tree.Tree.TheViews.{out-Tree}
 use Rattle.stream_objects.proofs.Standing.{At, at_front, at_back, inside_at, Whole, Run, all_stand, branch, filter_all}
 use Rattle.doc_model.specs.FittingElements.{FitsNumbered}
 use Rattle.doc_model.specs.NumberedElements.{IsNumbered, IsNumberedPackage}
-use Rattle.doc_model.specs.Responses.{front, sub_response, pulled_bytes, pulled_package, response}
-use Rattle.doc_model.specs.SeenResponses.{IsSeen, IsCellResponse, ReadsAs}
+use Rattle.doc_model.specs.Responses.{front, error_object, failure, sub_response, pulled_bytes, pulled_package, response}
+use Rattle.doc_model.specs.SeenResponses.{IsCellError, IsSeen, IsCellResponse, ReadsAs}
 use Rattle.doc_model.specs.Weights.{objects_written}
 use Rattle.doc_model.specs.WrittenElements.{numbered_bytes}
 use Rattle.doc_model.specs.declared.element.NumberedElement.{NumberedElement}
@@ -26,9 +26,11 @@ use Rattle.doc_model.specs.declared.reply.Submitted.{Submitted}
 use Rattle.doc_model.specs.declared.reply.Submitted.TheVariants.{Answered, DiskFault, JournalFull, NoMemory}
 use Rattle.data_elements.proofs.ElementStands.{element_stands}
 use Rattle.data_elements.proofs.Runs.{Of, kinds_of, any_of, single, two, one_of}
+use Rattle.data_elements.specs.declared.wire_fault.WireFault.TheVariants.{SchemaFault}
+use Rattle.wire_responses.specs.ResponseAnswers.{IsRefusal}
 use Rattle.wire_responses.specs.Seeing.{seen_answer, pulled, seen, FitsReply, FitsAnswer, element_objects_written, answer_objects_written, response_objects}
-use Rattle.wire_responses.proofs.AnswerStands.{answer_stands}
-use Rattle.wire_responses.proofs.Stands.{each_made, all_runs}
+use Rattle.wire_responses.proofs.AnswerStands.{error_stands, answer_stands}
+use Rattle.wire_responses.proofs.Stands.{each_made, all_runs, holder}
 
 module _ (input : List ℕ) (n : ℕ) where
   -- ---- elements
@@ -124,3 +126,24 @@ read_as answers f few small =
       form = w.is.1;
       few = few;
     }
+
+-- The written form of a failed request is in the form of no response.
+pub failed_read : (number : ℕ) → number < 2 ^ 32 → (place : ℕ) × IsRefusal (failure number) (SchemaFault place)
+unfolding failure
+failed_read number f =
+    let x = compound_object 0x62 (1 ∷ []) (error_object number) in
+    let bytes = front ++ x in
+    let at : At bytes 12 x = record { before = front; behind = []; input_is = ap (λ (l : List ℕ). front ++ l) (sym (append-nil x)); place = refl } in
+    let q = 12 + length (started 0x62 true (1 ∷ [])) in
+    let held = error_stands bytes 9 number q f (inside_at bytes 12 0x62 (1 ∷ []) (error_object number) at) in
+    let w = holder bytes 11 12 0x62 0x4D SpellsByte 1 (1 ∷ []) (error_object number) (IsCellError bytes) number 2 (omega arith) (omega arith) refl at held in
+    let end : 12 + length x ≡ length bytes = omega (arith, length-append front x) in
+    let stands : IsTreeAt bytes w.tree 12 (length bytes) = record { object = subst (λ (m : ℕ). IsObject 12 bytes w.tree 12 m) end w.object; few = omega (arith, w.count_is) } in
+    (
+      start_of w.tree,
+      (
+        record { long = omega (arith, length-append front x); versions = refl },
+        refl,
+        (w.tree, stands, inl (λ own. let one = w.is.1.0.fields in let zero = own.1.fields in absurd cc, refl)),
+      ),
+    )
