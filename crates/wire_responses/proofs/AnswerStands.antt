@@ -1,5 +1,5 @@
 -- The written form of an answer stands as a sub-response that says it.
-use Rattle.std.proofs.Common.{◌≡◌, ℕ, suc, ◌+◌, ◌/◌, ◌^◌, ◌<◌, ◌≤◌, Bool, true, false, List, [], ◌∷◌, ◌++◌, length, Option, Some, None, refl, sym, ap, subst, ◌∙◌, append_assoc, arith}
+use Rattle.std.proofs.Common.{◌≡◌, ℕ, suc, ◌+◌, ◌/◌, ◌^◌, ◌<◌, ◌≤◌, true, List, [], ◌∷◌, ◌++◌, length, Option, Some, None, refl, sym, ap, subst, append_assoc, arith}
 use Rattle.std.specs.Prelude.{IsSome, unwrap_or}
 use Rattle.std.specs.List.{AllByRecursion}
 use Rattle.std.specs.Int.{w32, to_le_bytes}
@@ -12,13 +12,12 @@ use Rattle.compact_values.specs.declared.guid.Guid.{Guid}
 use Rattle.compact_values.specs.declared.ids.ExGuid.{ExGuid}
 use Rattle.stream_objects.specs.Objects.{HasFields, One, kind_of}
 use Rattle.stream_objects.specs.Written.{started, simple_object, compound_object}
-use Rattle.stream_objects.specs.declared.tree.Tree.{Tree}
 use Rattle.stream_objects.proofs.Standing.{At, at_front, at_back, inside_at, Whole, leaf, whole_map}
 use Rattle.doc_model.specs.ElementObjects.{IsNothing}
-use Rattle.doc_model.specs.FittingElements.{FitsNumbered, FitsRange}
+use Rattle.doc_model.specs.FittingElements.{FitsRange}
 use Rattle.doc_model.specs.Knowledges.{IsKnowledge}
 use Rattle.doc_model.specs.Responses.{code_number, error_object, success_object, status_byte, reply_objects, sub_response}
-use Rattle.doc_model.specs.SeenResponses.{cell_error, hresult_error, SpellsNumber, ErrorNumber, IsCellError, IsSuccess, IsAccess, QueryAnswer, AllocateAnswer, SubResponseFields, reply_form, blank, IsSeen}
+use Rattle.doc_model.specs.SeenResponses.{cell_error, hresult_error, SpellsNumber, ErrorNumber, IsCellError, IsSuccess, IsAccess, QueryAnswer, AllocateAnswer, reply_form, blank, IsSeen}
 use Rattle.doc_model.specs.WrittenElements.{knowledge_bytes}
 use Rattle.doc_model.specs.declared.knowledge.Knowledge.{Knowledge}
 use Rattle.doc_model.specs.declared.reply.Answer.{Answer}

@@ -1,6 +1,6 @@
 -- What is read of a response is what it says, or where the first of its objects that isn't in its form starts.
-use Rattle.std.proofs.Common.{◌≡◌, ℕ, Bool, true, false, List, [], ◌∷◌, ◌++◌, map, Option, Some, None, Result, Ok, Err, inl, inr, refl, sym, ap, subst, ◌∙◌, append_assoc, eq-eqb}
-use Rattle.std.specs.Prelude.{◌==◌, ◌&&◌, is_some, filter, if◌then◌else◌}
+use Rattle.std.proofs.Common.{◌≡◌, ℕ, true, false, List, [], ◌∷◌, ◌++◌, map, Option, Some, None, Result, Ok, Err, inl, inr, refl, sym, ap, subst, ◌∙◌, append_assoc, eq-eqb}
+use Rattle.std.specs.Prelude.{◌&&◌, is_some, filter, if◌then◌else◌}
 use Rattle.std.specs.List.{AllByRecursion, flat_map}
 use Rattle.std.proofs.lemmas.Bool.Decides.{eqb_tells}
 use Rattle.std.proofs.lemmas.List.{append-nil}
@@ -20,7 +20,7 @@ use Rattle.doc_model.specs.ElementParts as elements
 use Rattle.doc_model.specs.NumberedElements.{IsNumberedPackage}
 use Rattle.doc_model.specs.NumberedElements as numbered
 use Rattle.doc_model.specs.SeenResponses.{IsSeen, IsCellResponse}
-use Rattle.doc_model.specs.ResponseParts.{Part, response, packed, InOwnForm, part_start, sub_parts, child_parts, response_parts}
+use Rattle.doc_model.specs.ResponseParts.{Part, packed, InOwnForm, part_start, sub_parts, child_parts, response_parts}
 use Rattle.doc_model.specs.declared.element.NumberedElement.{NumberedElement}
 use Rattle.doc_model.specs.declared.response.CellResponse.{CellResponse}
 use Rattle.doc_model.specs.declared.response.Seen.{Seen}

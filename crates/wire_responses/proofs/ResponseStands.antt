@@ -1,5 +1,5 @@
 -- The written form of a response is read as what its answers say.
-use Rattle.std.proofs.Common.{◌≡◌, ℕ, suc, ◌+◌, ◌^◌, ◌<◌, ◌≤◌, true, List, [], ◌∷◌, ◌++◌, length, map, refl, sym, ap, subst, ◌∙◌, inl, arith}
+use Rattle.std.proofs.Common.{◌≡◌, ℕ, suc, ◌+◌, ◌^◌, ◌<◌, ◌≤◌, true, List, [], ◌∷◌, ◌++◌, length, map, refl, sym, ap, subst, inl, arith}
 use Rattle.std.specs.Prelude.{filter}
 use Rattle.std.specs.List.{flat_map, sum_by, AllByRecursion}
 use Rattle.std.proofs.lemmas.List.{length-append, append-nil}
@@ -138,8 +138,7 @@ failed_read number f =
     let held = error_stands bytes 9 number q f (inside_at bytes 12 0x62 (1 ∷ []) (error_object number) at) in
     let w = holder bytes 11 12 0x62 0x4D SpellsByte 1 (1 ∷ []) (error_object number) (IsCellError bytes) number 2 (omega arith) (omega arith) refl at held in
     let end : 12 + length x ≡ length bytes = omega (arith, length-append front x) in
-    let stands : IsTreeAt bytes w.tree 12 (length bytes) = record { object = subst (λ (m : ℕ). IsObject 12 bytes w.tree 12 m) end w.object; few = omega (arith, w.count_is) } in
-    (
+    let stands : IsTreeAt bytes w.tree 12 (length bytes) = record { object = subst (λ (m : ℕ). IsObject 12 bytes w.tree 12 m) end w.object; few = omega (arith, w.count_is) } in (
       start_of w.tree,
       (
         record { long = omega (arith, length-append front x); versions = refl },

@@ -1,13 +1,11 @@
 -- Written objects stand as objects: one that holds one child, or one of each of two types, and one run of objects behind another.
-use Rattle.std.proofs.Common.{◌≡◌, ℕ, suc, ◌+◌, ◌^◌, ◌<◌, ◌≤◌, true, List, [], ◌∷◌, ◌++◌, length, map, sum, refl, sym, ap, subst, ◌∙◌, arith}
+use Rattle.std.proofs.Common.{◌≡◌, ℕ, suc, ◌+◌, ◌^◌, ◌<◌, ◌≤◌, true, List, [], ◌∷◌, ◌++◌, length, map, refl, ap, ◌∙◌, arith}
 use Rattle.std.specs.Prelude.{filter}
 use Rattle.std.specs.List.{flat_map, sum_by, AllByRecursion}
 use Rattle.std.proofs.lemmas.List.Sums.{sum_by-append}
 use Rattle.stream_objects.specs.Objects.{HasFields, One, Each, kind_of, is_kind}
-use Rattle.stream_objects.specs.Trees.{Consecutive, IsObject, objects}
 use Rattle.stream_objects.specs.Written.{started, compound_object}
 use Rattle.stream_objects.specs.declared.tree.Tree.{Tree}
-use Rattle.stream_objects.specs.declared.tree.Tree.TheViews.{out-Tree}
 use Rattle.stream_objects.proofs.Standing.{At, at_front, at_back, Whole, Run, branch, two_runs, objects-append, objects-one, filter_all}
 use Rattle.data_elements.proofs.Runs.{Of, single, two, one_of}
 

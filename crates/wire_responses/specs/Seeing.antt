@@ -1,5 +1,5 @@
 -- What a client reads of the written response of a list of answers, and which answers are so written that it can.
-use Rattle.std.specs.Prelude.{◌≡◌, ℕ, ◌+◌, ◌^◌, ◌<◌, List, [], map, length, Option, Some, IsSome}
+use Rattle.std.specs.Prelude.{◌≡◌, ℕ, ◌+◌, ◌^◌, ◌<◌, List, [], map, length, Some, IsSome}
 use Rattle.std.specs.List.{flat_map, sum_by, AllByRecursion}
 use Rattle.compact_values.specs.Ids.{FitsGuid, FitsExGuid}
 use Rattle.doc_model.specs.FittingElements.{FitsNumbered, FitsRange}

@@ -110,7 +110,9 @@ fn write_answered(alloc: Global, out: &mut Octets, reply: &Reply) -> Result<(), 
     match reply {
         Reply::Access => write_access(out),
         Reply::Pulled {
-            index, knowledge, ..
+            index,
+            knowledge,
+            ..
         } => {
             write_query(alloc, out, index)?;
             write_knowledge(out, knowledge)
