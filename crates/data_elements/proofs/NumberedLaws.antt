@@ -1,7 +1,7 @@
 -- What is read of elements with their serial numbers is what their objects say, or where the first of them that isn't in its
 -- form starts.
-use Rattle.std.proofs.Common.{◌≡◌, ℕ, true, List, [], ◌∷◌, ◌++◌, map, Option, Some, None, Result, Ok, Err, inl, inr, refl, sym, ap, subst, ◌∙◌, append_assoc}
-use Rattle.std.specs.Prelude.{◌==◌, if◌then◌else◌}
+use Rattle.std.proofs.Common.{◌≡◌, ℕ, List, [], ◌∷◌, ◌++◌, map, Option, Some, None, Result, Ok, Err, inl, inr, refl, sym, ap, subst, ◌∙◌, append_assoc}
+use Rattle.std.specs.Prelude.{◌==◌}
 use Rattle.std.specs.List.{AllByRecursion, flat_map}
 use Rattle.std.proofs.lemmas.Bool.{cases_Bool}
 use Rattle.std.proofs.lemmas.List.{append-nil}
@@ -12,7 +12,7 @@ use Rattle.compact_values.specs.declared.ids.Serial.TheVariants.{Null, Number}
 use Rattle.compact_values.proofs.LittleEndian.{IsBytes}
 use Rattle.stream_objects.specs.declared.tree.Tree.{Tree}
 use Rattle.stream_objects.specs.declared.tree.Tree.TheViews.{out-Tree}
-use Rattle.stream_objects.specs.Objects.{Each, start_of, children_of}
+use Rattle.stream_objects.specs.Objects.{Each, children_of}
 use Rattle.stream_objects.specs.Parts.{IsFirstBroken}
 use Rattle.stream_objects.specs.Gathering.{and_then}
 use Rattle.stream_objects.proofs.Broken.{Judges, all-append, broken_left, broken_right}
@@ -20,7 +20,7 @@ use Rattle.doc_model.specs.ElementObjects.{ElementFields, PackageFields}
 use Rattle.doc_model.specs.ElementParts.{Part, element, child, member, has_place, members_in, child_parts, parts_behind, element_row, element_parts, package_parts, part_start}
 use Rattle.doc_model.specs.ElementParts as elements
 use Rattle.doc_model.specs.Elements.{SaysBody}
-use Rattle.doc_model.specs.NumberedElements.{IsNumbered, IsNumberedPackage, HasSerial, InOwnForm}
+use Rattle.doc_model.specs.NumberedElements.{IsNumbered, IsNumberedPackage, InOwnForm}
 use Rattle.doc_model.specs.declared.element.Body.{Body}
 use Rattle.doc_model.specs.declared.element.NumberedElement.{NumberedElement}
 use Rattle.data_elements.specs.Rows.{package_row}
