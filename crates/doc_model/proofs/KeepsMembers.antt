@@ -111,8 +111,8 @@ unchanged : (schema : Guid) (members : List Member) (m : ℕ) (l : LockRecord) �
 unchanged schema members m l e Ends IsSet =
     subst (λ (now : LockRecord). Each (λ x. Ends x ⊎ StaysMember schema x (IsSet x) now) members) (sym e.lock)
     (each-as (There (λ x y. IsStill x (IsSet x) y) (λ x. (refl, inl refl)) e.all) (λ x. Ends x ⊎ StaysMember schema x (IsSet x) (Shared schema e.all)) members (λ x t. inr (refl, t))
-     (subst (λ (xs : List Member). Each (There (λ x y. IsStill x (IsSet x) y) (λ x. (refl, inl refl)) e.all) xs) (sym e.live)
-      (filtered-there (λ x y. IsStill x (IsSet x) y) (λ x. (refl, inl refl)) (is_live m) e.all)))
+    (subst (λ (xs : List Member). Each (There (λ x y. IsStill x (IsSet x) y) (λ x. (refl, inl refl)) e.all) xs) (sym e.live)
+    (filtered-there (λ x y. IsStill x (IsSet x) y) (λ x. (refl, inl refl)) (is_live m) e.all)))
 
 module _ (schema : Guid) (members : List Member) (m : ℕ) (l : LockRecord) (e : IsLiveOf schema members m l) where
   module _ (s : LockStep) where
