@@ -22,3 +22,5 @@ pub mod SameIndex
 pub mod SoundLocks
 pub mod Reasons
 pub mod SameContents
+pub mod OtherLocks
+pub mod Timeouts
