@@ -15,3 +15,6 @@ pub mod SoundCommits
 pub mod KeepsLock
 pub mod Following
 pub mod Rows
+pub mod SameBodies
+pub mod AllFirst
+pub mod SizeBounds
