@@ -26,6 +26,12 @@ none-holds [] h = tt
 none-holds ((false, c) ∷ rs) h = (refl, none-holds rs h)
 none-holds ((true, c) ∷ rs) h = cc
 
+-- and where none of the reasons holds, there is no refusal
+pub no-refusal : (rs : List (Bool × Code)) → NoneHolds rs → first_refusal rs ≡ None
+no-refusal [] h = refl
+no-refusal ((false, c) ∷ rs) h = no-refusal rs h.1
+no-refusal ((true, c) ∷ rs) h = absurd (false≢true (sym h.0))
+
 pub not-false : (b : Bool) → not b ≡ false → b ≡ true
 not-false true h = refl
 not-false false h = cc
