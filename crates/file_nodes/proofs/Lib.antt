@@ -4,3 +4,5 @@ pub mod FindLaws
 pub mod FileLaw
 pub mod ChunkedFile
 pub mod References
+pub mod ChunkWeight
+pub mod AcceptedFile

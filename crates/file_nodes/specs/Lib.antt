@@ -1,3 +1,4 @@
 pub mod Pieces
 pub mod Chunking
 pub mod Chunks
+pub mod ChunkLaws
