@@ -29,8 +29,8 @@ use Rattle.doc_model.specs.Turns.{Turn, first_refusal, unless}
 use Rattle.doc_model.specs.Weights.{weight, weight_of}
 use Rattle.doc_model.proofs.AllFirst.{firsts-distinct}
 use Rattle.doc_model.proofs.EachItem.{each-none}
-use Rattle.doc_model.proofs.OnStored.{no-refusal}
-use Rattle.doc_model.proofs.SameBodies.{same-body}
+use Rattle.doc_model.proofs.Reasons.{no-refusal}
+use Rattle.doc_model.proofs.SameContents.{exact-body}
 use Rattle.doc_model.proofs.SoundParts.{sum-filter}
 use Rattle.file_nodes.specs.declared.chunking.Chunked.{Chunked}
 use Rattle.file_nodes.specs.Chunking.{Part, leaf, node, numbered, objects_of, file_objects, levels, leaves}
@@ -130,7 +130,7 @@ module _ (objects : List Object) (guid : Guid) (first : ℕ) where
     valid_at k v body e few at =
         let here : find_element elements (id_of guid v) ≡ Some (record { id = id_of guid v; body = body })
         = find-consecutive (λ (x : Element). x.id) guid first v k elements (consecutive objects guid first) e ∙ at in
-        rw (not_foreign v (omega arith), here, same-body body)
+        rw (not_foreign v (omega arith), here, exact-body.same body)
 
     all_valid : has_invalid own drawn [] elements ≡ false
     all_valid =

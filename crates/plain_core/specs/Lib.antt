@@ -1,3 +1,5 @@
 pub mod Sayings
 pub mod Cataloging
 pub mod Keeping
+pub mod Weighing
+pub mod Sending

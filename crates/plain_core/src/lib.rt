@@ -8,9 +8,18 @@
 #![tactic(auto)]
 
 mod catalog;
+mod checking;
 mod naming;
 mod plain;
 mod pull;
 mod sayings;
+mod serials;
+mod uploads;
+mod weighing;
 
+pub use catalog::Catalog;
+pub use checking::any_invalid;
 pub use plain::{Change, PlainCore};
+pub use serials::{add_ids, add_serials};
+pub use uploads::{other_parts, pending};
+pub use weighing::weigh;

@@ -9,9 +9,7 @@ ghost use Rattle.plain_core.specs.Sayings.{seen_mappings, seen_manifest};
 use crate::catalog::Catalog;
 use crate::sayings::{Manifest, Mappings};
 use compact_values::{ExGuid, Ids, NoMemory, Seq};
-use doc_model::{
-    CellMap, CellMaps, Content, ManifestMap, Name, Namings, Object, RevisionMap,
-};
+use doc_model::{CellMap, CellMaps, Content, ManifestMap, Name, Namings, Object, RevisionMap};
 use std::alloc::Global;
 
 /// The mapping of a revision: of several the first counts.

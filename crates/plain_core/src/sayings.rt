@@ -17,4 +17,3 @@ pub struct Manifest<'a> {
     pub roots: &'a RevisionRoots,
     pub groups: &'a Ids,
 }
-

@@ -9,7 +9,7 @@ returns c =
     record {
       moved = c.read.ensures.moved;
       reply = c.read.ensures.reply ∙ c.in_ok-reply.ensures
-        ∙ ap (λ added. pulled now.guid added c.as_slice-commits.result.now known) c.as_slice-added.ensures.value
-        ∙ ap (λ commits. pulled now.guid now.added.items commits known) c.as_slice-commits.ensures.value;
+          ∙ ap (λ added. pulled now.guid added c.as_slice-commits.result.now known) c.as_slice-added.ensures.value
+          ∙ ap (λ commits. pulled now.guid now.added.items commits known) c.as_slice-commits.ensures.value;
       doc = c.read.ensures.doc;
     }
