@@ -1,30 +1,26 @@
 -- The put of a file that is cut is accepted.
-use Rattle.std.proofs.Common.{◌≡◌, ℕ, ◌+◌, ◌<◌, ◌≤◌, nat_lt, Bool, true, false, not, cond, ◌&&◌, ◌||◌, List, [], ◌∷◌, ◌++◌, length, map, filter, Option, None, Some, refl, sym, ap, subst, inl, inr, ◌∙◌, arith}
-use Rattle.std.specs.Prelude.{find, slice_get, is_some, is_none, option_map, option_and_then, unwrap_or}
+use Rattle.std.proofs.Common.{◌≡◌, ℕ, ◌+◌, ◌≤◌, nat_lt, Bool, true, false, not, ◌&&◌, ◌||◌, List, [], ◌∷◌, ◌++◌, length, map, filter, Option, None, Some, refl, sym, ap, subst, inl, inr, ◌∙◌, arith}
+use Rattle.std.specs.Prelude.{find, slice_get, is_some, is_none, option_map, unwrap_or}
 use Rattle.std.specs.Int.{div_ceil}
 use Rattle.std.proofs.lemmas.Bool.{cases_lt}
 use Rattle.std.proofs.lemmas.Grind.{flat_map-append}
-use Rattle.std.specs.List.{IsDistinct, flat_map, list_any, list_all, range_with_len}
+use Rattle.std.specs.List.{IsDistinct, flat_map, list_any}
 use Rattle.std.proofs.lemmas.Bool.Decides.{nat_tests}
 use Rattle.compact_values.specs.declared.guid.Guid.{Guid}
 use Rattle.compact_values.specs.declared.ids.ExGuid.{ExGuid}
-use Rattle.compact_values.specs.declared.ids.ExGuid.TheVariants as exguids
 use Rattle.compact_values.specs.SameIds.{same_guid, same_id}
 use Rattle.compact_values.proofs.SameIds.{guid-same, same-id, id-swap}
-use Rattle.doc_model.specs.declared.call.Put.{Put}
-use Rattle.doc_model.specs.declared.doc.Doc.{Doc}
 use Rattle.doc_model.specs.declared.element.Body.{Body}
 use Rattle.doc_model.specs.declared.element.Body.TheVariants.{Group}
 use Rattle.doc_model.specs.declared.element.Element.{Element}
 use Rattle.doc_model.specs.declared.element.Name.{Name}
 use Rattle.doc_model.specs.declared.element.Object.{Object}
-use Rattle.doc_model.specs.declared.element.Root.{Root}
 use Rattle.doc_model.specs.declared.reply.Code.{Code}
 use Rattle.doc_model.specs.Files.{file}
-use Rattle.doc_model.specs.Finding.{as_index, as_storage, as_cell, as_revision, as_group, find_element, said, firsts}
-use Rattle.doc_model.specs.Limits.{most_file, most_added, most_added_weight, most_reached_weight}
-use Rattle.doc_model.specs.Puts.{put, committed, commit_reasons, commit_refusal, grown, has_chains, has_invalid, is_foreign, is_invalid, is_new, same_ids, too_large, too_much_added}
-use Rattle.doc_model.specs.Reached.{absent, blob_of, blobs_of, chain, chains_end, currents_of, longest, manifest_of, named_along, named_revisions, names, names_below, reached_from, is_among}
+use Rattle.doc_model.specs.Finding.{as_index, as_storage, as_cell, as_revision, as_group, find_element, said}
+use Rattle.doc_model.specs.Limits.{most_file, most_added_weight, most_reached_weight}
+use Rattle.doc_model.specs.Puts.{put, committed, commit_reasons, commit_refusal, grown, has_chains, has_invalid, is_foreign, is_invalid, is_new, too_large, too_much_added}
+use Rattle.doc_model.specs.Reached.{absent, blob_of, named_along, names, names_below, reached_from, is_among}
 use Rattle.doc_model.specs.Turns.{Turn, first_refusal, unless}
 use Rattle.doc_model.specs.Weights.{weight, weight_of}
 use Rattle.doc_model.proofs.AllFirst.{firsts-distinct}
@@ -33,11 +29,11 @@ use Rattle.doc_model.proofs.Reasons.{no-refusal}
 use Rattle.doc_model.proofs.SameContents.{exact-body}
 use Rattle.doc_model.proofs.SoundParts.{sum-filter}
 use Rattle.file_nodes.specs.declared.chunking.Chunked.{Chunked}
-use Rattle.file_nodes.specs.Chunking.{Part, leaf, node, numbered, objects_of, file_objects, levels, leaves}
+use Rattle.file_nodes.specs.Chunking.{Part, leaf, node, numbered, objects_of, file_objects, leaves}
 use Rattle.file_nodes.specs.Chunks.{id_of, index_body, storage_body, cell_body, revision_body, elements_round, chunked}
-use Rattle.file_nodes.specs.ChunkLaws.{new_doc, upload, AreDrawn, Stores, CutFileIsStored}
+use Rattle.file_nodes.specs.ChunkLaws.{new_doc, upload, CutFileIsStored}
 use Rattle.file_nodes.proofs.ChunkedFile.{mappings, roots, manifest, consecutive, said-at, chain_is, file-chunked}
-use Rattle.file_nodes.proofs.ChunkWeight.{bulk, light-objects, light-elements}
+use Rattle.file_nodes.proofs.ChunkWeight.{light-objects, light-elements}
 use Rattle.file_nodes.specs.Pieces.{pieces}
 use Rattle.file_nodes.proofs.PartLaws.{all-few, all-many}
 use Rattle.file_nodes.proofs.FindLaws.{find-consecutive, distinct-consecutive}
@@ -68,7 +64,7 @@ module _ (added : List Element) (objects : List Object) (guid : Guid) (first : �
   pub nothing_absent : absent added (id_of guid first) ≡ None
   nothing_absent =
       rw index (
-        ap (λ (ns : List Name). option_map (λ (n : Name). n.id) (find (λ (n : Name). not n.found) ns)) below
+      ap (λ (ns : List Name). option_map (λ (n : Name). n.id) (find (λ (n : Name). not n.found) ns)) below
       )
 
   pub chains_are : has_chains added (id_of guid first) ≡ true
@@ -137,10 +133,16 @@ module _ (objects : List Object) (guid : Guid) (first : ℕ) where
         ap (λ (l : List Element). list_any (is_invalid own drawn l) elements) all_fresh
         ∙ each-none (is_invalid own drawn elements) elements (
           valid_at 0 first (index_body guid first) (omega arith) (omega arith) refl,
-          (valid_at 1 (first + 1) storage_body refl (omega arith) refl,
-          (valid_at 2 (first + 2) (cell_body guid first) refl (omega arith) refl,
-          (valid_at 3 (first + 3) (revision_body guid first) refl (omega arith) refl,
-          (valid_at 4 (first + 4) (Group objects) refl (omega arith) refl, tt)))),
+          (
+            valid_at 1 (first + 1) storage_body refl (omega arith) refl,
+            (
+              valid_at 2 (first + 2) (cell_body guid first) refl (omega arith) refl,
+              (
+                valid_at 3 (first + 3) (revision_body guid first) refl (omega arith) refl,
+                (valid_at 4 (first + 4) (Group objects) refl (omega arith) refl, tt),
+              ),
+            ),
+          ),
         )
 
     -- ---- so no reason holds

@@ -1,5 +1,5 @@
 -- The elements of a file that is cut weigh little more than the file.
-use Rattle.std.proofs.Common.{◌≡◌, ℕ, ◌+◌, ◌*◌, ◌<◌, ◌≤◌, List, [], ◌∷◌, ◌++◌, length, ap, arith, inl, inr}
+use Rattle.std.proofs.Common.{◌≡◌, ℕ, ◌+◌, ◌*◌, ◌≤◌, List, [], ◌∷◌, ◌++◌, length, ap, arith, inl, inr}
 use Rattle.std.specs.List.{AllByRecursion, flat_map}
 use Rattle.std.specs.Int.{div_ceil}
 use Rattle.std.proofs.lemmas.Bool.{cases_lt}
@@ -24,7 +24,7 @@ use Rattle.file_nodes.specs.Chunking.{Part, inline, leaf, node, numbered, object
 use Rattle.file_nodes.specs.Chunks.{id_of, index_body, storage_body, cell_body, revision_body, schema, elements_round}
 use Rattle.file_nodes.proofs.ChunkedFile.{mappings, roots, manifest}
 use Rattle.file_nodes.proofs.PieceLaws.{flat_map-pieces, length-pieces}
-use Rattle.file_nodes.proofs.PartLaws.{length-leaves, length-nodes, length-numbered, all-few, all-many}
+use Rattle.file_nodes.proofs.PartLaws.{length-nodes, length-numbered, all-few, all-many}
 use Rattle.file_nodes.proofs.FileLaw.{length-sha256}
 use Rattle.file_nodes.proofs.References.{few-top, pieces_are_short}
 
