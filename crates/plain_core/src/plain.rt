@@ -200,6 +200,7 @@ impl Core for PlainCore {
             Sub::Pull { knowledge } => self.plan_pull(knowledge.ranges.as_slice()),
             Sub::Put { put } => self.plan_put(call.moment, &call.user, put),
             Sub::Draw { count } => Ok(self.plan_draw(*count)),
+            Sub::Lock { .. } => Err(NoMemory),
         }
     }
 
