@@ -2,3 +2,4 @@ pub mod Sayings
 pub mod Cataloging
 pub mod Keeping
 pub mod Filing
+pub mod Reaching

@@ -6,6 +6,7 @@
 //! - `naming`: what an index names
 //! - `pull`: what a client lacks
 //! - `file`: the file at an index
+//! - `reaching`: what is reached from an index
 //! - `plain`: the document, its plans and what settles them
 #![tactic(auto)]
 
@@ -15,8 +16,10 @@ mod file;
 mod naming;
 mod plain;
 mod pull;
+mod reaching;
 mod sayings;
 
 pub use chains::has_chains;
 pub use file::{Filed, file_at};
 pub use plain::{Change, PlainCore};
+pub use reaching::is_heavy;
