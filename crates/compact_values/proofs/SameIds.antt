@@ -9,11 +9,11 @@ use Rattle.std.proofs.lemmas.Grind.{common_steps}
 use Rattle.std.proofs.Common.{arith}
 use Rattle.std.proofs.lemmas.Bool.Decides.{nat_tests}
 
-both : (a b : Bool) → (a && b) ≡ true → (a ≡ true) × (b ≡ true)
+pub both : (a b : Bool) → (a && b) ≡ true → (a ≡ true) × (b ≡ true)
 both true b h = (refl, h)
 both false b h = cc
 
-number : (a b : ℕ) → nat_eq a b ≡ true → a ≡ b
+pub number : (a b : ℕ) → nat_eq a b ≡ true → a ≡ b
 number a b h = grind (arith, nat_tests)
 
 pub guid-same : (a b : Guid) → same_guid a b ≡ true → a ≡ b
@@ -35,7 +35,7 @@ cell-same a b h =
     ap (λ (x : ExGuid). record { first = x; second = a.second }) (id-same a.first b.first t.0)
     ∙ ap (λ (y : ExGuid). record { first = b.first; second = y }) (id-same a.second b.second t.1)
 
-reflexive : (a : ℕ) → nat_eq a a ≡ true
+pub reflexive : (a : ℕ) → nat_eq a a ≡ true
 reflexive a = grind (arith, nat_tests)
 
 pub same-guid : (a : Guid) → same_guid a a ≡ true

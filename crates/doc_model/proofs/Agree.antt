@@ -1,5 +1,5 @@
 -- What an index names, its chains and its file depend on what stands under the named ids alone.
-use Rattle.std.proofs.Common.{◌≡◌, ℕ, zero, suc, ◌+◌, ◌≤◌, ◌<◌, refl, sym, ◌∙◌, ap, subst, Bool, true, false, ◌&&◌, cond, List, [], ◌∷◌, ◌++◌, map, flat_map, find, take, length, Option, Some, None, option_map, option_and_then, unwrap_or, arith}
+use Rattle.std.proofs.Common.{◌≡◌, ℕ, zero, suc, ◌≤◌, refl, sym, ◌∙◌, ap, subst, Bool, true, ◌&&◌, cond, List, [], ◌∷◌, ◌++◌, map, flat_map, find, take, Option, Some, None, option_map, option_and_then, unwrap_or, arith}
 use Rattle.std.specs.Prelude.{is_some}
 use Rattle.std.specs.List.{AllByRecursion as Each, list_all}
 use Rattle.compact_values.specs.declared.ids.ExGuid.{ExGuid}
@@ -17,11 +17,11 @@ use Rattle.doc_model.specs.declared.element.Root.{Root}
 use Rattle.doc_model.specs.declared.element.Object.{Object}
 use Rattle.doc_model.specs.declared.element.Content.{Content}
 use Rattle.doc_model.specs.declared.element.Content.TheVariants.{Inline, Apart}
-use Rattle.doc_model.specs.FileObjects.{FileObject, root_file}
-use Rattle.doc_model.specs.Files.{current_revision, root_chain, objects_of, own_bytes, as_file_object, file_objects, root_object, file_of_chain, file, group_objects, revision_objects}
+use Rattle.doc_model.specs.FileObjects.{root_file}
+use Rattle.doc_model.specs.Files.{current_revision, objects_of, own_bytes, as_file_object, file_objects, root_object, file_of_chain, file, group_objects, revision_objects}
 use Rattle.doc_model.specs.Finding.{first, find_element, said, firsts, Manifest, Mappings, as_index, as_storage, as_cell, as_revision, as_group, as_blob}
 use Rattle.doc_model.specs.Reached.{name, mapping_of, manifest_of, base_of, named_along, named_revisions, reached, reached_from, enough, longest, chain, chains_end, revision_name, cell_name, storage_name, group_name, blob_name, groups_of, groups_by, blobs_of, blob_of, cells_of, same_cells, current_of, currents_of, names, names_below}
-use Rattle.doc_model.proofs.EachItem.{each-front, each-back, each-map, each-mapped, each-flat, each-flat-map, each-both, each-as, map-same, flat-same, all-same}
+use Rattle.doc_model.proofs.EachItem.{each-front, each-back, each-map, each-flat, each-flat-map, each-both, each-as, map-same, flat-same, all-same}
 use Rattle.doc_model.proofs.Firsts.{first-kept}
 
 pub first-cell : (Q : CellMap → Type 0) (key : CellId) (cells : List CellMap) (c : CellMap) → Each Q (firsts same_cells cells)

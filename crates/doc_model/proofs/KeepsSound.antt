@@ -1,13 +1,10 @@
 -- Every call that may be made leaves a document sound.
-use Rattle.std.proofs.Common.{◌≡◌, ◌≢◌, ℕ, ◌+◌, ◌≤◌, refl, sym, ◌∙◌, ap, Bool, true, false, not, ◌&&◌, ◌||◌, cond, List, [], ◌∷◌, ◌++◌, map, length, nat_le, nat_lt, Option, Some, None, arith}
-use Rattle.std.specs.Prelude.{is_some, is_none}
+use Rattle.std.proofs.Common.{◌≡◌, ◌≢◌, ℕ, ◌+◌, ◌≤◌, refl, sym, ◌∙◌, Bool, true, false, ◌&&◌, cond, List, [], length, nat_le, nat_lt, Option, Some, None, arith}
 use Rattle.std.proofs.lemmas.Bool.Decides.{nat_tests}
 use Rattle.std.proofs.lemmas.List.{append-nil}
-use Rattle.std.proofs.lemmas.List.Elements.{All-from_recursion, recursion_from_All, All-append, All-nil, All-push, All-weaker}
-use Rattle.std.specs.List.{AllByRecursion as Each, All, IsDistinct, list_all}
-use Rattle.compact_values.specs.declared.guid.Guid.{Guid}
+use Rattle.std.proofs.lemmas.List.Elements.{All-from_recursion, All-append, All-nil, All-push, All-weaker}
+use Rattle.std.specs.List.{AllByRecursion as Each, All}
 use Rattle.compact_values.specs.declared.ids.ExGuid.TheVariants.{Null}
-use Rattle.doc_model.specs.declared.call.Call.{Call}
 use Rattle.doc_model.specs.declared.call.Put.{Put}
 use Rattle.doc_model.specs.declared.call.Sub.{Sub}
 use Rattle.doc_model.specs.declared.call.Sub.TheVariants as sub
@@ -15,15 +12,13 @@ use Rattle.doc_model.specs.declared.doc.Doc.{Doc}
 use Rattle.doc_model.specs.declared.doc.Commit.{Commit}
 use Rattle.doc_model.specs.declared.element.Element.{Element}
 use Rattle.doc_model.specs.declared.reply.Code.{Code}
-use Rattle.doc_model.specs.Apply.{apply, by_kind, empty_doc}
+use Rattle.doc_model.specs.Apply.{by_kind}
 use Rattle.doc_model.specs.Drawing.{draw, can_draw, last_number}
-use Rattle.doc_model.specs.Files.{file}
 use Rattle.doc_model.specs.Laws.{KeepsSound, EmptyIsSound}
 use Rattle.doc_model.specs.Limits.{most_added, most_added_weight, most_objects}
-use Rattle.doc_model.specs.Puts.{put, is_part, part_refusal, part_reasons, commit_refusal, commit_reasons, kept, committed, sent_to, added_by, fresh, other_parts, has_invalid, too_many_parts, too_much_added, is_committed, has_chains, too_large}
-use Rattle.doc_model.specs.Reached.{absent}
-use Rattle.doc_model.specs.Sound.{IsSoundElement, IsSoundCommit, AreSoundParts, Sound, IsValidSub, Valid}
-use Rattle.doc_model.specs.Turns.{Turn, first_refusal, refused, unless}
+use Rattle.doc_model.specs.Puts.{put, is_part, part_reasons, commit_reasons, kept, committed, sent_to, added_by, fresh, other_parts, has_invalid, too_many_parts}
+use Rattle.doc_model.specs.Sound.{IsSoundElement, IsSoundCommit, Sound, IsValidSub}
+use Rattle.doc_model.specs.Turns.{Turn, first_refusal, unless}
 use Rattle.doc_model.specs.Weights.{objects_written, weight_of}
 use Rattle.doc_model.proofs.Distinct.{distinct-none}
 use Rattle.doc_model.proofs.EachItem.{each-as}

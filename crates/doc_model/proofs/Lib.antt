@@ -12,3 +12,7 @@ pub mod SoundElements
 pub mod KeepsSound
 pub mod SoundParts
 pub mod SoundCommits
+pub mod KeepsLock
+pub mod Following
+pub mod Rows
+pub mod SameContents

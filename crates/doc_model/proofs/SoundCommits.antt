@@ -1,11 +1,11 @@
 -- The commits of a document stay sound: what is added later changes nothing at them, and a put commits only an index of
 -- which all is there, with a file, within the limits.
-use Rattle.std.proofs.Common.{◌≡◌, ◌≢◌, ℕ, ◌+◌, ◌≤◌, ◌<◌, refl, sym, ◌∙◌, ap, subst, Bool, true, false, not, ◌&&◌, ◌||◌, cond, List, [], ◌∷◌, ◌++◌, map, filter, find, length, nat_lt, Option, Some, None, option_map, option_and_then, unwrap_or, arith}
-use Rattle.std.specs.Prelude.{is_some, is_none, IsTrue}
+use Rattle.std.proofs.Common.{◌≡◌, ℕ, refl, sym, ◌∙◌, ap, Bool, true, false, not, ◌&&◌, ◌||◌, cond, List, [], ◌∷◌, ◌++◌, map, filter, find, length, nat_lt, Option, Some, None, option_map, option_and_then, unwrap_or}
+use Rattle.std.specs.Prelude.{is_some, is_none}
 use Rattle.std.proofs.lemmas.Bool.{false≢true}
 use Rattle.std.proofs.lemmas.List.{append-nil}
 use Rattle.std.proofs.lemmas.List.Elements.{filter-append}
-use Rattle.std.specs.List.{AllByRecursion as Each, All, IsDistinct, list_all, list_any}
+use Rattle.std.specs.List.{AllByRecursion as Each, IsDistinct, list_all}
 use Rattle.compact_values.specs.declared.ids.ExGuid.{ExGuid}
 use Rattle.compact_values.specs.SameIds.{same_id}
 use Rattle.compact_values.proofs.SameIds.{id-same, same-id}
@@ -24,7 +24,7 @@ use Rattle.doc_model.specs.Weights.{weight_of}
 use Rattle.doc_model.proofs.Added.{file-stays, names-found, names-stay, same-added}
 use Rattle.doc_model.proofs.Agree.{reached-same}
 use Rattle.doc_model.proofs.Distinct.{distinct-push}
-use Rattle.doc_model.proofs.EachItem.{each-as, each-none, none-each}
+use Rattle.doc_model.proofs.EachItem.{each-as, none-each}
 use Rattle.doc_model.proofs.OnStored.{not-false, or-neither}
 use Rattle.doc_model.proofs.SoundElements.{IsNew, not-less}
 

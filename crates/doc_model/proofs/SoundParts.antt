@@ -1,8 +1,8 @@
 -- The uploads that aren't complete stay sound: a put drops some of them, and a part adds one.
-use Rattle.std.proofs.Common.{◌≡◌, ℕ, ◌+◌, ◌≤◌, refl, sym, ◌∙◌, ap, subst, Bool, true, false, not, ◌&&◌, ◌||◌, cond, List, [], ◌∷◌, ◌++◌, map, filter, find, length, nat_lt, Option, Some, None, option_map, unwrap_or, arith}
-use Rattle.std.specs.List.{AllByRecursion as Each, All, IsDistinct, sum_by}
+use Rattle.std.proofs.Common.{◌≡◌, ℕ, ◌+◌, ◌≤◌, refl, Bool, true, false, not, cond, List, [], ◌∷◌, ◌++◌, filter, length, nat_lt, Option, Some, None, option_map, unwrap_or, arith}
+use Rattle.std.specs.List.{AllByRecursion as Each, All, sum_by}
 use Rattle.std.proofs.lemmas.List.{length_push}
-use Rattle.std.proofs.lemmas.List.Elements.{All-from_recursion, recursion_from_All, All-filter, All-push, All-weaker, All-append}
+use Rattle.std.proofs.lemmas.List.Elements.{recursion_from_All, All-filter, All-push, All-weaker}
 use Rattle.std.proofs.lemmas.List.Sums.{sum_by-cons, sum_by_push}
 use Rattle.compact_values.specs.declared.ids.ExGuid.{ExGuid}
 use Rattle.compact_values.specs.SameIds.{same_id}
@@ -15,7 +15,7 @@ use Rattle.doc_model.specs.Puts.{find_part, pending, sent, is_kept, other_parts,
 use Rattle.doc_model.specs.Sound.{IsSoundElement, IsSoundPart, AreSoundParts, part_weight}
 use Rattle.doc_model.specs.Weights.{objects_written, weight_of}
 use Rattle.doc_model.proofs.Distinct.{distinct-filter, distinct-push}
-use Rattle.doc_model.proofs.EachItem.{each-as, each-append, each-filter, each-found, each-passes}
+use Rattle.doc_model.proofs.EachItem.{each-as, each-append, each-found, each-passes}
 use Rattle.doc_model.proofs.OnStored.{and-both, not-true, or-neither}
 use Rattle.doc_model.proofs.SoundElements.{element-later, not-less}
 

@@ -1,5 +1,5 @@
 -- What holds of every document and every call.
-use Rattle.std.specs.Prelude.{◌≡◌, ◌≢◌, ◌⊎◌, ℕ, Bool, true, false, IsTrue, List, [], ◌++◌, map, Some}
+use Rattle.std.specs.Prelude.{◌≡◌, ◌≢◌, ◌⊎◌, ℕ, true, false, IsTrue, List, [], ◌++◌, map, Some}
 use Rattle.doc_model.specs.declared.call.Call.{Call}
 use Rattle.doc_model.specs.declared.call.Put.{Put}
 use Rattle.doc_model.specs.declared.doc.Doc.{Doc}
@@ -7,11 +7,11 @@ use Rattle.doc_model.specs.declared.doc.Commit.{Commit}
 use Rattle.compact_values.specs.declared.guid.Guid.{Guid}
 use Rattle.compact_values.specs.declared.ids.ExGuid.{ExGuid}
 use Rattle.compact_values.specs.declared.ids.ExGuid.TheVariants.{Null}
-use Rattle.std.specs.List.{list_all, slice_get}
+use Rattle.std.specs.List.{All, list_all, slice_get}
 use Rattle.doc_model.specs.declared.element.Element.{Element}
 use Rattle.doc_model.specs.Files.{file}
 use Rattle.doc_model.specs.Reached.{names}
-use Rattle.doc_model.specs.Apply.{apply, empty_doc}
+use Rattle.doc_model.specs.Apply.{apply, empty_doc, replay}
 use Rattle.doc_model.specs.Pulls.{stored_index, pull}
 use Rattle.doc_model.specs.declared.reply.Reply.{Reply}
 use Rattle.doc_model.specs.declared.reply.Reply.TheVariants.{Pulled}
@@ -72,3 +72,21 @@ KeepsSound = (doc : Doc) (call : Call) → Sound doc → Valid call → Sound (a
 
 abbrev pub EmptyIsSound : Type 0
 EmptyIsSound = (guid : Guid) → Sound (empty_doc guid)
+
+-- A document that stands later in a history: its elements and versions begin with those of the earlier one, and the file at
+-- each of those versions is the same.
+pub record Follows (doc later : Doc) : Type 0 where
+  pub more : List Element
+  pub added : later.added ≡ doc.added ++ more
+  pub versions : List Commit
+  pub commits : later.commits ≡ doc.commits ++ versions
+  pub files : All (λ c. file later.added c.index ≡ file doc.added c.index) doc.commits
+
+-- No call takes an element or a version away, or changes the file at a version.
+abbrev pub CallsFollow : Type 0
+CallsFollow = (doc : Doc) (call : Call) → Sound doc → Follows doc (apply doc call).doc
+
+-- The same of lists of calls that may be made; and the document stays sound.
+abbrev pub HistoriesFollow : Type 0
+HistoriesFollow =
+    (doc : Doc) (calls : List (ℕ × Call)) → Sound doc → All (λ item. Valid item.1) calls → Sound (replay doc calls) × Follows doc (replay doc calls)

@@ -26,6 +26,7 @@ pub mod Files
 pub mod Pulls
 pub mod Locks
 pub mod LockSteps
+pub mod Locking
 pub mod Sound
 pub mod Puts
 pub mod Apply
@@ -33,3 +34,4 @@ pub mod NumberedElements
 pub mod SeenResponses
 pub mod ResponseParts
 pub mod Laws
+pub mod LockLaws

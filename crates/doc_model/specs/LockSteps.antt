@@ -18,6 +18,25 @@ use Rattle.doc_model.specs.declared.reply.Code.{Code}
 use Rattle.doc_model.specs.declared.reply.Code.TheVariants as code
 use Rattle.doc_model.specs.Locks.{shared_by}
 
+-- the steps of a shared lock; the others are those of an exclusive one
+abbrev pub is_shared_step : LockStep → Bool
+is_shared_step (TakeExclusive id t) = false
+is_shared_step (DropExclusive id) = false
+is_shared_step (RefreshExclusive id t) = false
+is_shared_step (CheckExclusive id) = false
+is_shared_step (ToShared id schema client t coauthor) = false
+is_shared_step _ = true
+
+-- how long a step asks for, if it does
+abbrev pub timeout_of : LockStep → Option ℕ
+timeout_of (TakeExclusive id t) = Some t
+timeout_of (RefreshExclusive id t) = Some t
+timeout_of (ToShared id schema client t coauthor) = Some t
+timeout_of (TakeShared schema client t coauthor) = Some t
+timeout_of (RefreshShared schema client t) = Some t
+timeout_of (ToExclusive schema client id t release) = Some t
+timeout_of _ = None
+
 -- what a step does with the live lock
 pub data LockTurn : Type 0 where
   becomes : LockRecord → LockTurn

@@ -1,5 +1,5 @@
 //! Laws of the definitions: each function's contract is one, and it does nothing.
-ghost use Rattle.doc_model.specs.Laws.{UnmovedIsEqual, CommitsOnStored, OneCommitOfIndex, NamesStay, FileStays, DownloadsTheFile, DownloadsNothing, KeepsSound, EmptyIsSound};
+ghost use Rattle.doc_model.specs.Laws.{UnmovedIsEqual, CommitsOnStored, OneCommitOfIndex, NamesStay, FileStays, DownloadsTheFile, DownloadsNothing, KeepsSound, EmptyIsSound, CallsFollow, HistoriesFollow};
 
 /// A call that doesn't move leaves the document equal.
 pub fn unmoved_leaves_the_document()
@@ -29,4 +29,10 @@ pub fn downloads_the_file()
 pub fn every_call_keeps_sound()
     ensures kept { KeepsSound }
     ensures empty { EmptyIsSound }
+{}
+
+/// No call takes an element or a version away, or changes the file at a version; neither does a list of calls.
+pub fn the_file_at_a_version_stays()
+    ensures call { CallsFollow }
+    ensures calls { HistoriesFollow }
 {}

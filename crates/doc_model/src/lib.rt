@@ -10,7 +10,7 @@
 //! - `call`: what a call asks of a document
 //! - `core_trait`: a document, however it is kept
 //! - `copied`, `same`: copies of plain data, and exact comparison
-//! - `laws`: what holds of the definitions themselves
+//! - `laws`, `lock_laws`: what holds of the definitions themselves
 //! - `request`: what a request asks for
 //! - `sizes`: how many bytes the values of a written element take
 //! - `weighing`: how many bytes a written element takes
@@ -27,6 +27,7 @@ mod element;
 mod knowledge;
 pub mod laws;
 mod lock;
+pub mod lock_laws;
 mod reply;
 mod request;
 mod response;

@@ -1,10 +1,9 @@
 -- From the index of a file that is cut one comes to its objects, and so to the file.
-use Rattle.std.proofs.Common.{◌≡◌, ℕ, ◌+◌, ◌≤◌, List, [], ◌∷◌, ◌++◌, length, map, Option, Some, None, refl, sym, ap, ◌∙◌, arith}
-use Rattle.std.specs.Prelude.{find, slice_get, option_and_then, option_map}
+use Rattle.std.proofs.Common.{◌≡◌, ℕ, ◌+◌, ◌≤◌, List, [], ◌∷◌, ◌++◌, length, map, Option, Some, refl, ap, ◌∙◌, arith}
+use Rattle.std.specs.Prelude.{slice_get, option_and_then}
 use Rattle.std.specs.List.{range_with_len}
 use Rattle.std.proofs.lemmas.List.{append-nil}
 use Rattle.compact_values.specs.declared.guid.Guid.{Guid}
-use Rattle.compact_values.specs.declared.ids.ExGuid.{ExGuid}
 use Rattle.compact_values.specs.declared.ids.ExGuid.TheVariants as exguids
 use Rattle.compact_values.specs.declared.ids.Serial.TheVariants as serials
 use Rattle.compact_values.proofs.SameIds.{same-id}
@@ -72,7 +71,7 @@ module _ (added : List Element) (objects : List Object) (guid : Guid) (first : �
   root_chain_is = rw (index, current_is, chain_is)
 
   objects_are : file_of_chain added (manifest guid first ∷ []) ≡ root_file (map (as_file_object added) objects) (id_of guid (first + 6))
-  objects_are = rw (group, append-nil, append-nil)
+  objects_are = rw group (ap (λ (l : List Object). root_file (map (as_file_object added) l) (id_of guid (first + 6))) (append-nil (objects ++ []) ∙ append-nil objects))
 
   file_is : file added (id_of guid first) ≡ root_file (map (as_file_object added) objects) (id_of guid (first + 6))
   file_is = rw root_chain_is objects_are

@@ -1,8 +1,8 @@
 -- The file of what is cut is the file that was cut.
-use Rattle.std.proofs.Common.{◌≡◌, ℕ, zero, suc, ◌+◌, ◌-◌, ◌*◌, ◌^◌, ◌<◌, ◌≤◌, min, Bool, true, false, ◌==◌, if◌then◌else◌, List, [], ◌∷◌, ◌++◌, length, map, take, drop, Option, Some, None, get_or, ◌⊎◌, refl, sym, ap, ◌∙◌, arith, append_assoc, inl, inr}
-use Rattle.std.specs.Prelude.{find, slice_get, option_and_then, option_map}
+use Rattle.std.proofs.Common.{◌≡◌, ℕ, zero, suc, ◌+◌, ◌*◌, ◌^◌, ◌<◌, ◌≤◌, true, false, ◌==◌, List, [], ◌∷◌, ◌++◌, length, map, take, drop, Option, Some, get_or, ◌⊎◌, refl, sym, ap, ◌∙◌, arith, append_assoc, inl, inr}
+use Rattle.std.specs.Prelude.{slice_get}
 use Rattle.std.specs.Int.{to_be_bytes, w32}
-use Rattle.std.specs.List.{AllByRecursion, flat_map, range_with_len}
+use Rattle.std.specs.List.{AllByRecursion, range_with_len}
 use Rattle.std.proofs.lemmas.Bool.{cases_lt}
 use Rattle.std.proofs.lemmas.Bool.Decides.{nat_tests}
 use Rattle.std.proofs.lemmas.Grind.{flat_map-append}
@@ -11,14 +11,12 @@ use Rattle.sha2.specs.Sha256.{sha256, digest_bytes, final_hash, initial_hash_256
 use Rattle.compact_values.specs.declared.guid.Guid.{Guid}
 use Rattle.compact_values.specs.declared.ids.ExGuid.{ExGuid}
 use Rattle.doc_model.specs.declared.element.Element.{Element}
-use Rattle.doc_model.specs.declared.element.Object.{Object}
-use Rattle.doc_model.specs.Nodes.{node_bytes, node_size}
-use Rattle.doc_model.specs.FileObjects.{FileObject, find_object, joined, of_node, node_file, file_below, root_file}
+use Rattle.doc_model.specs.FileObjects.{FileObject, find_object, joined, node_file, file_below, root_file}
 use Rattle.doc_model.specs.Files.{as_file_object}
 use Rattle.doc_model.proofs.NodeLaws.{node_size-node_bytes}
 use Rattle.file_nodes.specs.Pieces.{pieces_within, pieces}
 use Rattle.file_nodes.specs.Chunks.{id_of}
-use Rattle.file_nodes.specs.Chunking.{Part, Levels, inline, leaf, node, numbered, objects_of, ids_of, joined_files, levels_within, leaves, levels, file_parts, file_objects}
+use Rattle.file_nodes.specs.Chunking.{Part, leaf, node, numbered, objects_of, ids_of, joined_files, leaves, levels, file_objects}
 use Rattle.file_nodes.proofs.FindLaws.{find-consecutive}
 use Rattle.file_nodes.proofs.PartLaws.{length-numbered, ids_of-numbered, joined_files-leaves, levels-few, levels-many, joined_files-top}
 

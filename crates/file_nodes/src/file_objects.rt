@@ -145,7 +145,7 @@ fn push_leaves(
     Ok(())
 }
 
-/// Adds the intermediate nodes over the leaves of a file, whose values begin at `leaf_value`, with values from `first` on.
+/// Adds the intermediate nodes over the leaves of a file, whose values begin at `first_leaf`, with values from `first` on.
 fn push_nodes(
     alloc: Global,
     objects: &mut Objects,

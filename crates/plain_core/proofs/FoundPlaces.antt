@@ -1,5 +1,6 @@
 -- What stands at the first place of an id is what is found by it.
-use Rattle.std.proofs.Common.{◌≡◌, ℕ, suc, refl, ap, Bool, true, false, cond, List, [], ◌∷◌, map, find, Option, Some, None, option_map, option_and_then, slice_get}
+use Rattle.std.proofs.Common.{◌≡◌, ℕ, suc, refl, ap, Bool, true, false, cond, ◌||◌, List, [], ◌∷◌, map, find, Option, Some, None, option_map, option_and_then, slice_get}
+use Rattle.std.specs.List.{list_any}
 use Rattle.compact_values.specs.declared.ids.ExGuid.{ExGuid}
 use Rattle.compact_values.specs.IdPlaces.{place_of}
 use Rattle.compact_values.specs.SameIds.{same_id}
@@ -15,3 +16,8 @@ step false e es (Some k) found later = later
 pub place-found : (es : List Element) (id : ExGuid) → option_and_then (slice_get es) (place_of (map (λ e. e.id) es) id) ≡ find_element es id
 place-found [] id = refl
 place-found (e ∷ es) id = step (same_id e.id id) e es (place_of (map (λ e. e.id) es) id) (find_element es id) (place-found es id)
+
+-- an id is one of the ids of these elements where one of them has it
+pub any-id : (id : ExGuid) (es : List Element) → list_any (same_id id) (map (λ e. e.id) es) ≡ list_any (λ e. same_id id e.id) es
+any-id id [] = refl
+any-id id (e ∷ es) = ap (λ b. same_id id e.id || b) (any-id id es)

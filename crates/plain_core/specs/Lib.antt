@@ -3,3 +3,5 @@ pub mod Cataloging
 pub mod Keeping
 pub mod Filing
 pub mod Reaching
+pub mod Weighing
+pub mod Sending

@@ -1,9 +1,12 @@
 // The elements of a document, found by their ids, and what they say.
-ghost use Rattle.std.specs.Prelude.{◌≡◌, ◌++◌, map, IfOk, option_map, option_copied, slice_get};
-ghost use Rattle.doc_model.specs.Finding.{find_element, said, as_storage, as_cell, as_group, as_blob, as_index, as_revision};
+ghost use Rattle.std.specs.Prelude.{◌≡◌, [], ◌∷◌, ◌++◌, map, fold, IfOk, OnOk, option_map, option_copied, slice_get};
+ghost use Rattle.std.specs.List.{list_any};
+ghost use Rattle.compact_values.specs.SameIds.{same_id};
+ghost use Rattle.doc_model.specs.Puts.{same_ids};
+ghost use Rattle.doc_model.specs.Finding.{find_element, with_new, said, as_storage, as_cell, as_group, as_blob, as_index, as_revision};
 
 use crate::sayings::{Manifest, Mappings};
-use compact_values::{ExGuid, IdIndex, NoMemory, Octets, Seq};
+use compact_values::{Copied, ExGuid, IdIndex, NoMemory, Octets, Seq};
 use doc_model::{Body, Element, Elements, Objects, Roots};
 use std::alloc::Global;
 
@@ -62,6 +65,58 @@ impl<'a> Catalog<'a> {
             None => None,
             Some(place) => at(self.added, self.fresh.as_slice(), place),
         }
+    }
+
+    /// Whether there is an element with this id.
+    pub fn contains(&self, id: ExGuid) -> bool
+        ensures { result ≡ list_any (λ e. same_id id e.id) (listed self.now) }
+    {
+        self.index.contains(id)
+    }
+
+    /// Adds the element at the end. Without memory it is dropped.
+    fn push(&mut self, element: Element) -> Result<(), NoMemory>
+        ensures { OnOk result (listed self.new ≡ listed self.old ++ element ∷ []) }
+    {
+        let id = element.id;
+        let before = self.fresh.len();
+        self.fresh.push(element)?;
+        match self.index.push(id) {
+            Ok(()) => Ok(()),
+            Err(NoMemory) => {
+                self.fresh.truncate(before);
+                Err(NoMemory)
+            }
+        }
+    }
+
+    // Adds a copy of the element, unless one with its id is there.
+    fn add_new(&mut self, alloc: Global, element: &Element) -> Result<(), NoMemory>
+        ensures { OnOk result (listed self.new ≡ with_new same_ids (listed self.old) element.now) }
+    {
+        if self.contains(element.id) {
+            Ok(())
+        } else {
+            self.push(element.copied(alloc)?)
+        }
+    }
+
+    /// Adds copies of those of the elements whose ids aren't there yet.
+    pub fn grow(&mut self, alloc: Global, elements: &[Element]) -> Result<(), NoMemory>
+        ensures { OnOk result (listed self.new ≡ fold (with_new same_ids) (listed self.old) elements.now) }
+    {
+        for element in elements {
+            self.add_new(alloc, element)?;
+        }
+        Ok(())
+    }
+
+    /// What it was made with, and what was added behind.
+    pub fn into_parts(self) -> (&'a [Element], Elements)
+        ensures { result.0.now ++ result.1 ≡ listed self.entry }
+    {
+        let Catalog { added, fresh, .. } = self;
+        (added, fresh)
     }
 
     /// The roots of a storage manifest.

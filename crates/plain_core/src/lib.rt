@@ -13,13 +13,23 @@
 mod catalog;
 mod chains;
 mod file;
+mod checking;
 mod naming;
 mod plain;
 mod pull;
 mod reaching;
 mod sayings;
+mod serials;
+mod uploads;
+mod weighing;
 
 pub use chains::has_chains;
 pub use file::{Filed, file_at};
 pub use plain::{Change, PlainCore};
 pub use reaching::is_heavy;
+pub use catalog::Catalog;
+pub use checking::any_invalid;
+pub use plain::{Change, PlainCore};
+pub use serials::{add_ids, add_serials};
+pub use uploads::{other_parts, pending};
+pub use weighing::weigh;

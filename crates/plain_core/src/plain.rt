@@ -137,6 +137,7 @@ impl Core for PlainCore {
         match &call.sub {
             Sub::Access => Ok(self.read(Reply::Access)),
             Sub::Pull { knowledge } => self.plan_pull(knowledge.ranges.as_slice()),
+            Sub::Put { .. } => Err(NoMemory),
             Sub::Draw { count } => Ok(self.plan_draw(*count)),
         }
     }

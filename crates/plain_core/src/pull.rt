@@ -19,7 +19,7 @@ fn knows(guid: Guid, ranges: &[Range], serial: u64) -> bool
 }
 
 /// Rising serials as maximal ranges.
-fn ranges_of(alloc: Global, guid: Guid, serials: &[u64]) -> Result<Ranges, NoMemory>
+pub fn ranges_of(alloc: Global, guid: Guid, serials: &[u64]) -> Result<Ranges, NoMemory>
     ensures { IfOk result (λ ranges. ranges ≡ ranges_of guid serials.now) }
 {
     let mut done = Seq::new(alloc);

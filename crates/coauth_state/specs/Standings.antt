@@ -1,0 +1,27 @@
+-- How a lock stands to an id.
+use Rattle.std.specs.Prelude.{◌≡◌, List, []}
+use Rattle.compact_values.specs.declared.guid.Guid.{Guid}
+use Rattle.doc_model.specs.declared.lock.LockRecord.{LockRecord}
+use Rattle.doc_model.specs.declared.lock.LockRecord.TheVariants as lock
+use Rattle.doc_model.specs.declared.lock.Member.{Member}
+use Rattle.doc_model.specs.declared.reply.Code.TheVariants as code
+use Rattle.doc_model.specs.LockSteps.{LockTurn, refuses, on_shared, on_member}
+use Rattle.coauth_state.specs.declared.standing.Standing.{Standing}
+use Rattle.coauth_state.specs.declared.standing.Standing.TheVariants.{Free, Own, Other}
+
+abbrev pub members_of : LockRecord → List Member
+members_of (lock.Shared schema members) = members
+members_of _ = []
+
+-- the turn for each standing
+abbrev pub turn_at : Standing → LockTurn → LockTurn → LockTurn
+turn_at Free free own = free
+turn_at Own free own = own
+turn_at Other free own = refuses code.AlreadyLocked
+
+-- it is how the lock stands to a schema lock id, and to a client of one
+pub record StandsShared (schema : Guid) (lock : LockRecord) (standing : Standing) : Type 0 where
+  pub turn : (free : LockTurn) (own : List Member → LockTurn) → on_shared schema lock free own ≡ turn_at standing free (own (members_of lock))
+
+pub record StandsMember (schema client : Guid) (lock : LockRecord) (standing : Standing) : Type 0 where
+  pub turn : (own : List Member → LockTurn) → on_member schema client lock own ≡ turn_at standing (refuses code.NotLocked) (own (members_of lock))

@@ -1,0 +1,81 @@
+-- A live lock is kept by every step but those of its own holders.
+use Rattle.std.proofs.Common.{◌≡◌, ◌⊎◌, ℕ, zero, suc, ◌+◌, ◌<◌, refl, sym, ◌∙◌, ap, subst, Bool, true, false, not, cond, nat_lt, List, [], ◌∷◌, length, filter, inl, inr, ⊎_elim, ◌==◌, arith}
+use Rattle.std.proofs.lemmas.Bool.Decides.{nat_tests}
+use Rattle.std.proofs.lemmas.List.Elements.{All-from_recursion}
+use Rattle.std.specs.List.{AllByRecursion as Each, All, Any, list_any}
+use Rattle.compact_values.specs.declared.guid.Guid.{Guid}
+use Rattle.compact_values.specs.SameIds.{same_guid}
+use Rattle.compact_values.proofs.SameIds.{guid-same}
+use Rattle.doc_model.specs.declared.doc.Doc.{Doc}
+use Rattle.doc_model.specs.declared.lock.LockRecord.{LockRecord}
+use Rattle.doc_model.specs.declared.lock.LockRecord.TheVariants.{Free, Exclusive, Shared}
+use Rattle.doc_model.specs.declared.lock.LockStep.{LockStep}
+use Rattle.doc_model.specs.declared.lock.LockStep.TheVariants as step
+use Rattle.doc_model.specs.declared.lock.Member.{Member}
+use Rattle.doc_model.specs.declared.reply.Code.TheVariants as code
+use Rattle.doc_model.specs.LockLaws.{EndsExclusive, SetsExclusive, StaysExclusive, EndsMember, SetsMember, IsStill, StaysMember, StepKeepsExclusive, StepKeepsMembers}
+use Rattle.doc_model.specs.LockSteps.{LockTurn, becomes, refuses, stays, leaves, lock_turn, lock_after, lock_moved, member, is_client, others, with_client}
+use Rattle.doc_model.specs.Locks.{live, shared_by, is_live}
+use Rattle.doc_model.proofs.EachItem.{each-as}
+
+-- by a test, and by whether two ids are one
+by-test : (b : Bool) (P : Bool → Type 0) → (b ≡ true → P true) → (b ≡ false → P false) → P b
+by-test true P p q = p refl
+by-test false P p q = q refl
+
+by-same : (held id : Guid) (P : Bool → Type 0) → (id ≡ held → P true) → P false → P (same_guid held id)
+by-same held id P own other = by-test (same_guid held id) P (λ e. own (sym (guid-same held id e))) (λ e. other)
+
+-- a live exclusive lock is the one that is kept
+only_live : (b : Bool) (i id : Guid) (v u : ℕ) → cond b (Exclusive i v) Free ≡ Exclusive id u → Exclusive i v ≡ Exclusive id u
+only_live true i id v u h = h
+only_live false i id v u h = cc
+
+not_shared : (s id : Guid) (u : ℕ) (ms : List Member) (l : LockRecord) → shared_by s ms ≡ Exclusive id u → l ≡ Exclusive id u
+not_shared s id u [] l h = cc
+not_shared s id u (x ∷ xs) l h = cc
+
+live-exclusive : (l : LockRecord) (m : ℕ) (id : Guid) (u : ℕ) → live l m ≡ Exclusive id u → l ≡ Exclusive id u
+live-exclusive Free m id u h = cc
+live-exclusive (Exclusive i v) m id u h = only_live (nat_lt m v) i id v u h
+live-exclusive (Shared s ms) m id u h = not_shared s id u (filter (is_live m) ms) (Shared s ms) h
+
+module _ (id : Guid) (u m : ℕ) (l : LockRecord) (e : l ≡ Exclusive id u) where
+  -- what is to be shown of a step and the lock after it
+  abbrev Kept : LockStep → LockRecord → Type 0
+  Kept s now = EndsExclusive id s ⊎ StaysExclusive id u (SetsExclusive id s) now
+
+  abbrev after : LockTurn → LockRecord
+  after turn = cond (lock_moved turn) (lock_after (Exclusive id u) turn) l
+
+  same : (s : LockStep) → Kept s l
+  same s = subst (λ (x : LockRecord). Kept s x) (sym e) (inr (refl, inl refl))
+
+  pub exclusive-kept : (s : LockStep) → Kept s (after (lock_turn m s (Exclusive id u)))
+  exclusive-kept (step.TakeExclusive i t) =
+      by-same id i (λ b. Kept (step.TakeExclusive i t) (after (cond b (becomes (Exclusive i (m + t))) (refuses code.AlreadyLocked))))
+      (λ h. inr (h, inr h)) (same (step.TakeExclusive i t))
+  exclusive-kept (step.DropExclusive i) =
+      by-same id i (λ b. Kept (step.DropExclusive i) (after (cond b (becomes Free) (refuses code.AlreadyLocked))))
+      (λ h. inl h) (same (step.DropExclusive i))
+  exclusive-kept (step.RefreshExclusive i t) =
+      by-same id i (λ b. Kept (step.RefreshExclusive i t) (after (cond b (becomes (Exclusive i (m + t))) (refuses code.AlreadyLocked))))
+      (λ h. inr (h, inr h)) (same (step.RefreshExclusive i t))
+  exclusive-kept (step.CheckExclusive i) =
+      by-same id i (λ b. Kept (step.CheckExclusive i) (after (cond b stays (refuses code.AlreadyLocked))))
+      (λ h. same (step.CheckExclusive i)) (same (step.CheckExclusive i))
+  exclusive-kept (step.ToShared i sc c t co) =
+      by-same id i (λ b. Kept (step.ToShared i sc c t co) (after (cond b (becomes (Shared sc (member c (m + t) co ∷ []))) (refuses code.AlreadyLocked))))
+      (λ h. inl h) (same (step.ToShared i sc c t co))
+  exclusive-kept (step.TakeShared sc c t co) = same (step.TakeShared sc c t co)
+  exclusive-kept (step.DropShared sc c) = same (step.DropShared sc c)
+  exclusive-kept (step.RefreshShared sc c t) = same (step.RefreshShared sc c t)
+  exclusive-kept (step.ToExclusive sc c i t r) = same (step.ToExclusive sc c i t r)
+  exclusive-kept (step.CheckShared sc) = same (step.CheckShared sc)
+  exclusive-kept (step.Status sc c) = same (step.Status sc c)
+  exclusive-kept (step.Mark sc c) = same (step.Mark sc c)
+
+pub step-keeps-exclusive : StepKeepsExclusive
+step-keeps-exclusive doc m s id u e =
+    subst (λ (x : LockRecord). Kept id u m doc.lock (live-exclusive doc.lock m id u e) s (cond (lock_moved (lock_turn m s x)) (lock_after x (lock_turn m s x)) doc.lock)) (sym e)
+    (exclusive-kept id u m doc.lock (live-exclusive doc.lock m id u e) s)
