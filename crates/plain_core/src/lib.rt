@@ -12,8 +12,8 @@
 
 mod catalog;
 mod chains;
-mod file;
 mod checking;
+mod file;
 mod naming;
 mod plain;
 mod pull;
@@ -23,13 +23,12 @@ mod serials;
 mod uploads;
 mod weighing;
 
+pub use catalog::Catalog;
 pub use chains::has_chains;
+pub use checking::any_invalid;
 pub use file::{Filed, file_at};
 pub use plain::{Change, PlainCore};
 pub use reaching::is_heavy;
-pub use catalog::Catalog;
-pub use checking::any_invalid;
-pub use plain::{Change, PlainCore};
 pub use serials::{add_ids, add_serials};
 pub use uploads::{other_parts, pending};
 pub use weighing::weigh;
