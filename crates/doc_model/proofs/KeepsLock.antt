@@ -1,29 +1,24 @@
 -- A live lock is kept by every step but those of its own holders.
-use Rattle.std.proofs.Common.{◌≡◌, ◌⊎◌, ℕ, zero, suc, ◌+◌, ◌<◌, refl, sym, ◌∙◌, ap, subst, Bool, true, false, not, cond, nat_lt, List, [], ◌∷◌, length, filter, inl, inr, ⊎_elim, ◌==◌, arith}
-use Rattle.std.proofs.lemmas.Bool.Decides.{nat_tests}
-use Rattle.std.proofs.lemmas.List.Elements.{All-from_recursion}
-use Rattle.std.specs.List.{AllByRecursion as Each, All, Any, list_any}
+use Rattle.std.proofs.Common.{◌≡◌, ◌⊎◌, ℕ, ◌+◌, refl, sym, subst, Bool, true, false, cond, nat_lt, List, [], ◌∷◌, filter, inl, inr}
 use Rattle.compact_values.specs.declared.guid.Guid.{Guid}
 use Rattle.compact_values.specs.SameIds.{same_guid}
 use Rattle.compact_values.proofs.SameIds.{guid-same}
-use Rattle.doc_model.specs.declared.doc.Doc.{Doc}
 use Rattle.doc_model.specs.declared.lock.LockRecord.{LockRecord}
 use Rattle.doc_model.specs.declared.lock.LockRecord.TheVariants.{Free, Exclusive, Shared}
 use Rattle.doc_model.specs.declared.lock.LockStep.{LockStep}
 use Rattle.doc_model.specs.declared.lock.LockStep.TheVariants as step
 use Rattle.doc_model.specs.declared.lock.Member.{Member}
 use Rattle.doc_model.specs.declared.reply.Code.TheVariants as code
-use Rattle.doc_model.specs.LockLaws.{EndsExclusive, SetsExclusive, StaysExclusive, EndsMember, SetsMember, IsStill, StaysMember, StepKeepsExclusive, StepKeepsMembers}
-use Rattle.doc_model.specs.LockSteps.{LockTurn, becomes, refuses, stays, leaves, lock_turn, lock_after, lock_moved, member, is_client, others, with_client}
+use Rattle.doc_model.specs.LockLaws.{EndsExclusive, SetsExclusive, StaysExclusive, StepKeepsExclusive}
+use Rattle.doc_model.specs.LockSteps.{LockTurn, becomes, refuses, stays, lock_turn, lock_after, lock_moved, member}
 use Rattle.doc_model.specs.Locks.{live, shared_by, is_live}
-use Rattle.doc_model.proofs.EachItem.{each-as}
 
 -- by a test, and by whether two ids are one
-by-test : (b : Bool) (P : Bool → Type 0) → (b ≡ true → P true) → (b ≡ false → P false) → P b
+pub by-test : (b : Bool) (P : Bool → Type 0) → (b ≡ true → P true) → (b ≡ false → P false) → P b
 by-test true P p q = p refl
 by-test false P p q = q refl
 
-by-same : (held id : Guid) (P : Bool → Type 0) → (id ≡ held → P true) → P false → P (same_guid held id)
+pub by-same : (held id : Guid) (P : Bool → Type 0) → (id ≡ held → P true) → P false → P (same_guid held id)
 by-same held id P own other = by-test (same_guid held id) P (λ e. own (sym (guid-same held id e))) (λ e. other)
 
 -- a live exclusive lock is the one that is kept

@@ -13,6 +13,12 @@ pub mod KeepsSound
 pub mod SoundParts
 pub mod SoundCommits
 pub mod KeepsLock
+pub mod KeepsMembers
+pub mod UnderLock
 pub mod Following
 pub mod Rows
+pub mod LastCommit
+pub mod SameIndex
+pub mod SoundLocks
+pub mod Reasons
 pub mod SameContents

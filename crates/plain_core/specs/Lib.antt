@@ -5,3 +5,5 @@ pub mod Filing
 pub mod Reaching
 pub mod Weighing
 pub mod Sending
+pub mod Uploading
+pub mod Filing

@@ -112,6 +112,13 @@ impl<'a> Catalog<'a> {
     }
 
     /// What it was made with, and what was added behind.
+    pub fn slices(&self) -> (&[Element], &[Element])
+        ensures { result.0.now ++ result.1.now ≡ listed self.now }
+    {
+        (self.added, self.fresh.as_slice())
+    }
+
+    /// The same, each on its own.
     pub fn into_parts(self) -> (&'a [Element], Elements)
         ensures { result.0.now ++ result.1 ≡ listed self.entry }
     {
