@@ -1,9 +1,8 @@
 pub mod Sayings
 pub mod Cataloging
 pub mod Keeping
-pub mod Filing
-pub mod Reaching
 pub mod Weighing
 pub mod Sending
 pub mod Uploading
 pub mod Filing
+pub mod Reaching
