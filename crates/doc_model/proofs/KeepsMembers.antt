@@ -1,4 +1,4 @@
--- Each live member of a shared lock is kept by every step but its own drop and conversion.
+-- Each live member of a shared lock is kept by every call but its own drop and conversion.
 use Rattle.std.proofs.Common.{◌≡◌, ◌⊎◌, ℕ, suc, ◌+◌, refl, sym, ap, subst, Bool, true, false, not, ◌||◌, cond, nat_lt, List, [], ◌∷◌, length, filter, inl, inr, ⊎_elim, ◌==◌, arith}
 use Rattle.std.proofs.lemmas.Bool.Decides.{nat_tests}
 use Rattle.std.proofs.lemmas.List.Elements.{All-from_recursion}
@@ -6,15 +6,22 @@ use Rattle.std.specs.List.{AllByRecursion as Each, Any, list_any}
 use Rattle.compact_values.specs.declared.guid.Guid.{Guid}
 use Rattle.compact_values.specs.SameIds.{same_guid}
 use Rattle.compact_values.proofs.SameIds.{guid-same}
+use Rattle.doc_model.specs.declared.call.Sub.{Sub}
+use Rattle.doc_model.specs.declared.call.Sub.TheVariants as sub
+use Rattle.doc_model.specs.declared.doc.Doc.{Doc}
 use Rattle.doc_model.specs.declared.lock.LockRecord.{LockRecord}
 use Rattle.doc_model.specs.declared.lock.LockRecord.TheVariants.{Free, Exclusive, Shared}
 use Rattle.doc_model.specs.declared.lock.LockStep.{LockStep}
 use Rattle.doc_model.specs.declared.lock.LockStep.TheVariants as step
 use Rattle.doc_model.specs.declared.lock.Member.{Member}
 use Rattle.doc_model.specs.declared.reply.Code.TheVariants as code
-use Rattle.doc_model.specs.LockLaws.{EndsMember, SetsMember, IsStill, StaysMember, StepKeepsMembers}
+use Rattle.doc_model.specs.Apply.{by_kind}
+use Rattle.doc_model.specs.Drawing.{draw}
+use Rattle.doc_model.specs.LockLaws.{EndsMember, SetsMember, IsStill, StaysMember, ByStep, KeepsMembers}
 use Rattle.doc_model.specs.LockSteps.{LockTurn, becomes, refuses, stays, leaves, lock_turn, lock_after, lock_moved, member, is_client, others, with_client}
 use Rattle.doc_model.specs.Locks.{live, shared_by, is_live}
+use Rattle.doc_model.specs.Puts.{put}
+use Rattle.doc_model.proofs.OtherLocks.{put-lock, draw-lock}
 use Rattle.doc_model.proofs.EachItem.{each-as}
 use Rattle.doc_model.proofs.KeepsLock.{by-test, by-same}
 
@@ -98,6 +105,15 @@ live-shared (Shared s ms) m schema members h =
     let t = by_schema s schema (filter (is_live m) ms) members h in
     record { all = ms; lock = ap (λ (x : Guid). Shared x ms) t.0; live = t.1 }
 
+-- where nothing changes, each of them is there
+unchanged : (schema : Guid) (members : List Member) (m : ℕ) (l : LockRecord) → IsLiveOf schema members m l → (Ends IsSet : Member → Type 0)
+    → Each (λ x. Ends x ⊎ StaysMember schema x (IsSet x) l) members
+unchanged schema members m l e Ends IsSet =
+    subst (λ (now : LockRecord). Each (λ x. Ends x ⊎ StaysMember schema x (IsSet x) now) members) (sym e.lock)
+    (each-as (There (λ x y. IsStill x (IsSet x) y) (λ x. (refl, inl refl)) e.all) (λ x. Ends x ⊎ StaysMember schema x (IsSet x) (Shared schema e.all)) members (λ x t. inr (refl, t))
+    (subst (λ (xs : List Member). Each (There (λ x y. IsStill x (IsSet x) y) (λ x. (refl, inl refl)) e.all) xs) (sym e.live)
+    (filtered-there (λ x y. IsStill x (IsSet x) y) (λ x. (refl, inl refl)) (is_live m) e.all)))
+
 module _ (schema : Guid) (members : List Member) (m : ℕ) (l : LockRecord) (e : IsLiveOf schema members m l) where
   module _ (s : LockStep) where
     -- what is to be shown of a step and the lock after it
@@ -117,10 +133,7 @@ module _ (schema : Guid) (members : List Member) (m : ℕ) (l : LockRecord) (e :
     own x = (refl, inl refl)
 
     same : AllKept l
-    same =
-        subst (λ (x : LockRecord). AllKept x) (sym e.lock)
-        (each-as (There Still own e.all) (Kept (Shared schema e.all)) members (λ x t. inr (refl, t))
-        (subst (λ (xs : List Member). Each (There Still own e.all) xs) (sym e.live) (filtered-there Still own (is_live m) e.all)))
+    same = unchanged schema members m l e Ends (λ x. SetsMember schema x.client s)
 
     -- the members of one schema id, with a client or without
     with-kept : (client : Guid) (until : ℕ) (coauthor : Bool) (sc : Guid) → sc ≡ schema → ((x : Member) → client ≡ x.client → SetsMember schema x.client s)
@@ -195,9 +208,27 @@ module _ (schema : Guid) (members : List Member) (m : ℕ) (l : LockRecord) (e :
   members-kept (step.Status sc c) = let s = step.Status sc c in on-own-member s sc c stays (λ h. same s)
   members-kept (step.Mark sc c) = let s = step.Mark sc c in on-own-member s sc c stays (λ h. same s)
 
-pub step-keeps-members : StepKeepsMembers
-step-keeps-members doc m s schema members e =
-    let kept = live-shared doc.lock m schema members e in
-    All-from_recursion _ members
-    (subst (λ (x : LockRecord). AllKept schema members m doc.lock kept s (cond (lock_moved (lock_turn m s x)) (lock_after x (lock_turn m s x)) doc.lock)) (sym e)
-    (members-kept schema members m doc.lock kept s))
+module _ (doc : Doc) (m : ℕ) (user : List ℕ) (schema : Guid) (members : List Member) (e : live doc.lock m ≡ Shared schema members) where
+  -- what is to be shown of a call and the lock after it
+  abbrev KeptBy : Sub → LockRecord → Type 0
+  KeptBy s now = Each (λ x. ByStep s (EndsMember schema x.client) ⊎ StaysMember schema x (ByStep s (SetsMember schema x.client)) now) members
+
+  are : IsLiveOf schema members m doc.lock
+  are = live-shared doc.lock m schema members e
+
+  as-before : (s : Sub) (now : LockRecord) → now ≡ doc.lock → KeptBy s now
+  as-before s now h =
+      subst (λ (x : LockRecord). KeptBy s x) (sym h)
+      (unchanged schema members m doc.lock are (λ x. ByStep s (EndsMember schema x.client)) (λ x. ByStep s (SetsMember schema x.client)))
+
+  kind-keeps : (s : Sub) → KeptBy s (by_kind doc m user s).doc.lock
+  kind-keeps sub.Access = as-before sub.Access doc.lock refl
+  kind-keeps (sub.Pull knowledge) = as-before (sub.Pull knowledge) doc.lock refl
+  kind-keeps (sub.Put p) = as-before (sub.Put p) (put doc m user p).doc.lock (put-lock doc m user p)
+  kind-keeps (sub.Draw count) = as-before (sub.Draw count) (draw doc count).doc.lock (draw-lock doc count)
+  kind-keeps (sub.Lock s) =
+      subst (λ (x : LockRecord). KeptBy (sub.Lock s) (cond (lock_moved (lock_turn m s x)) (lock_after x (lock_turn m s x)) doc.lock)) (sym e)
+      (members-kept schema members m doc.lock are s)
+
+pub keeps-members : KeepsMembers
+keeps-members doc call schema members e = All-from_recursion _ members (kind-keeps doc call.moment call.user schema members e call.sub)

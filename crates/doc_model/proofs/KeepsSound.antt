@@ -17,6 +17,7 @@ use Rattle.doc_model.specs.declared.reply.Code.{Code}
 use Rattle.doc_model.specs.Apply.{by_kind}
 use Rattle.doc_model.specs.Drawing.{draw, can_draw, last_number}
 use Rattle.doc_model.specs.Laws.{KeepsSound, EmptyIsSound}
+use Rattle.doc_model.specs.Locking.{do_lock}
 use Rattle.doc_model.specs.Limits.{most_added, most_added_weight, most_objects}
 use Rattle.doc_model.specs.Puts.{put, is_part, part_reasons, commit_reasons, kept, committed, sent_to, added_by, fresh, other_parts, has_invalid, too_many_parts}
 use Rattle.doc_model.specs.Sound.{IsSoundElement, IsSoundCommit, AreSoundParts, AreSoundMembers, AreSoundEditors, Sound, IsValidSub}
@@ -26,6 +27,7 @@ use Rattle.doc_model.proofs.Distinct.{distinct-none}
 use Rattle.doc_model.proofs.EachItem.{each-as}
 use Rattle.doc_model.proofs.SoundCommits.{commit-later, commit-new, distinct-commits}
 use Rattle.doc_model.proofs.SoundElements.{IsOwned, each-fresh, each-owned, each-sound, element-later, distinct-added, fresh-new}
+use Rattle.doc_model.proofs.SoundLocks.{lock-sound}
 use Rattle.doc_model.proofs.SoundParts.{others-sound, parts-later, sent-few, with-part}
 use Rattle.doc_model.proofs.Reasons.{NoneHolds, and-both, none-holds, not-less, or-neither}
 
@@ -161,6 +163,7 @@ module _ (doc : Doc) (s : Sound doc) where
   kind-sound moment user (sub.Pull knowledge) v = s
   kind-sound moment user (sub.Put p) v = put-sound moment user p v.1
   kind-sound moment user (sub.Draw count) v = draw-sound count
+  kind-sound moment user (sub.Lock step) v = with-lock (do_lock doc moment step).doc.lock (lock-sound doc.lock moment step s.members)
 
 pub keeps-sound : KeepsSound
 keeps-sound doc call s v = kind-sound doc s call.moment call.user call.sub v.sub

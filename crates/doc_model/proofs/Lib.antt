@@ -17,8 +17,12 @@ pub mod KeepsMembers
 pub mod UnderLock
 pub mod Following
 pub mod Rows
+pub mod AllFirst
+pub mod SizeBounds
 pub mod LastCommit
 pub mod SameIndex
 pub mod SoundLocks
 pub mod Reasons
 pub mod SameContents
+pub mod OtherLocks
+pub mod Timeouts

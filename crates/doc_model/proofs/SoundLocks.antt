@@ -1,35 +1,21 @@
--- A step of a lock leaves a document sound, and equal where it doesn't move.
+-- A step of a lock leaves its members few and distinct.
 use Rattle.std.proofs.Common.{◌≡◌, ◌⊎◌, ℕ, suc, ◌+◌, ◌≤◌, ◌<◌, refl, ap, subst, Bool, true, false, not, ◌||◌, ◌==◌, cond, List, [], ◌∷◌, map, filter, length, nat_lt, inl, inr, ⊎_elim, arith}
 use Rattle.std.proofs.lemmas.Bool.Decides.{nat_tests}
 use Rattle.std.specs.List.{AllByRecursion as Each, IsDistinct, list_any}
 use Rattle.compact_values.specs.declared.guid.Guid.{Guid}
 use Rattle.compact_values.specs.SameIds.{same_guid}
 use Rattle.compact_values.proofs.SameIds.{guid-same}
-use Rattle.doc_model.specs.declared.doc.Doc.{Doc}
 use Rattle.doc_model.specs.declared.lock.LockRecord.{LockRecord}
 use Rattle.doc_model.specs.declared.lock.LockRecord.TheVariants.{Free, Exclusive, Shared}
 use Rattle.doc_model.specs.declared.lock.LockStep.{LockStep}
 use Rattle.doc_model.specs.declared.lock.LockStep.TheVariants.{TakeExclusive, DropExclusive, RefreshExclusive, CheckExclusive, ToShared, TakeShared, DropShared, RefreshShared, ToExclusive, CheckShared, Status, Mark}
 use Rattle.doc_model.specs.declared.lock.Member.{Member}
-use Rattle.doc_model.specs.Laws.{UnmovedStepIsEqual, StepKeepsSound}
 use Rattle.doc_model.specs.Limits.{most_sharing}
-use Rattle.doc_model.specs.Locking.{after_lock}
 use Rattle.doc_model.specs.Locks.{is_live, live, shared_by}
 use Rattle.doc_model.specs.LockSteps.{LockTurn, becomes, stays, refuses, leaves, on_exclusive, on_shared, on_member, is_client, others, member, with_client, lock_turn, lock_after, lock_moved}
 use Rattle.doc_model.specs.Sound.{AreSoundMembers}
 use Rattle.doc_model.proofs.Distinct.{distinct-filter, distinct-one}
-use Rattle.doc_model.proofs.KeepsSound.{with-lock}
 use Rattle.doc_model.proofs.SoundParts.{length-filter}
-
--- a turn that doesn't move leaves the document
-unmoved-turn : (doc : Doc) (moment : ℕ) (step : LockStep) (turn : LockTurn) → (after_lock doc moment step turn).moved ≡ false → (after_lock doc moment step turn).doc ≡ doc
-unmoved-turn doc moment step (becomes new) h = cc
-unmoved-turn doc moment step stays h = refl
-unmoved-turn doc moment step (refuses c) h = refl
-unmoved-turn doc moment step (leaves new) h = cc
-
-pub unmoved-step : UnmovedStepIsEqual
-unmoved-step doc moment step h = unmoved-turn doc moment step (lock_turn moment step (live doc.lock moment)) h
 
 -- members are few, each once
 abbrev FewOnce : List Member → Type 0
@@ -165,8 +151,7 @@ members-after old lock stays s t = s
 members-after old lock (refuses c) s t = s
 members-after old lock (leaves new) s t = t
 
-pub step-sound : StepKeepsSound
-step-sound doc moment step s =
-    let turn = lock_turn moment step (live doc.lock moment) in
-    with-lock doc s (cond (lock_moved turn) (lock_after (live doc.lock moment) turn) doc.lock)
-    (members-after doc.lock (live doc.lock moment) turn s.members (turn-sound moment step (live doc.lock moment) (live-sound doc.lock moment s.members)))
+pub lock-sound : (lock : LockRecord) (moment : ℕ) (step : LockStep) → AreSoundMembers lock
+    → AreSoundMembers (cond (lock_moved (lock_turn moment step (live lock moment))) (lock_after (live lock moment) (lock_turn moment step (live lock moment))) lock)
+lock-sound lock moment step s =
+    members-after lock (live lock moment) (lock_turn moment step (live lock moment)) s (turn-sound moment step (live lock moment) (live-sound lock moment s))

@@ -37,6 +37,7 @@ kind-allowed doc m user (sub.Pull knowledge) ne = absurd (ne refl)
 kind-allowed doc m user (sub.Put p) ne =
     let none = none-holds (commit_reasons doc m p (sent_to doc p) (added_by doc p)) (put-accepted doc m user p ne) in
     allowed-by (live doc.lock m) p (not-false (allowed (live doc.lock m) p.carried) none.0)
+kind-allowed doc m user (sub.Lock step) ne = absurd (ne refl)
 kind-allowed doc m user (sub.Draw count) ne = absurd (ne (same_commits (can_draw doc count) _ _ doc.commits refl refl))
 
 pub under-lock : CommitsUnderLock

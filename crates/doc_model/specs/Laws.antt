@@ -9,13 +9,11 @@ use Rattle.doc_model.specs.declared.call.Put.{Put}
 use Rattle.doc_model.specs.declared.doc.Doc.{Doc}
 use Rattle.doc_model.specs.declared.doc.Commit.{Commit}
 use Rattle.doc_model.specs.declared.element.Element.{Element}
-use Rattle.doc_model.specs.declared.lock.LockStep.{LockStep}
 use Rattle.doc_model.specs.declared.reply.Reply.{Reply}
 use Rattle.doc_model.specs.declared.reply.Reply.TheVariants.{Pulled}
 use Rattle.doc_model.specs.Apply.{apply, empty_doc, replay}
 use Rattle.doc_model.specs.Files.{file, root_chain}
 use Rattle.doc_model.specs.Finding.{find_element}
-use Rattle.doc_model.specs.Locking.{do_lock}
 use Rattle.doc_model.specs.Pulls.{stored_index, pull}
 use Rattle.doc_model.specs.Puts.{put}
 use Rattle.doc_model.specs.Reached.{names, reached}
@@ -115,10 +113,3 @@ CallsFollow = (doc : Doc) (call : Call) → Sound doc → Follows doc (apply doc
 abbrev pub HistoriesFollow : Type 0
 HistoriesFollow =
     (doc : Doc) (calls : List (ℕ × Call)) → Sound doc → All (λ item. Valid item.1) calls → Sound (replay doc calls) × Follows doc (replay doc calls)
-
--- The same of the steps of a lock: one that doesn't move leaves the document equal, and each leaves it sound.
-abbrev pub UnmovedStepIsEqual : Type 0
-UnmovedStepIsEqual = (doc : Doc) (moment : ℕ) (step : LockStep) → (do_lock doc moment step).moved ≡ false → (do_lock doc moment step).doc ≡ doc
-
-abbrev pub StepKeepsSound : Type 0
-StepKeepsSound = (doc : Doc) (moment : ℕ) (step : LockStep) → Sound doc → Sound (do_lock doc moment step).doc

@@ -1,11 +1,10 @@
 //! Laws of the definitions: each function's contract is one, and it does nothing.
-ghost use Rattle.doc_model.specs.Laws.{UnmovedIsEqual, CommitsOnStored, OneCommitOfIndex, EqualIndexEqualCommits, NamesStay, ReachedStays, ChainStays, FileStays, DownloadsTheFile, DownloadsWhatIsReached, DownloadsNothing, KeepsSound, EmptyIsSound, CallsFollow, HistoriesFollow, UnmovedStepIsEqual, StepKeepsSound};
+ghost use Rattle.doc_model.specs.Laws.{UnmovedIsEqual, CommitsOnStored, OneCommitOfIndex, EqualIndexEqualCommits, NamesStay, ReachedStays, ChainStays, FileStays, DownloadsTheFile, DownloadsWhatIsReached, DownloadsNothing, KeepsSound, EmptyIsSound, CallsFollow, HistoriesFollow};
 ghost use Rattle.doc_model.specs.LockLaws.{CommitsUnderLock};
 
-/// A call that doesn't move leaves the document equal, and so does a step of a lock.
+/// A call that doesn't move leaves the document equal.
 pub fn unmoved_leaves_the_document()
-    ensures call { UnmovedIsEqual }
-    ensures step { UnmovedStepIsEqual }
+    ensures { UnmovedIsEqual }
 {}
 
 /// A put that doesn't win as the last writer commits on the stored index alone. An index is that of one commit, so where
@@ -38,11 +37,9 @@ pub fn downloads_the_file()
     ensures nothing { DownloadsNothing }
 {}
 
-/// Every call that may be made leaves a sound document sound, and so does a step of a lock. A document without anything
-/// is sound.
+/// Every call that may be made leaves a sound document sound, and a document without anything is sound.
 pub fn every_call_keeps_sound()
     ensures kept { KeepsSound }
-    ensures step { StepKeepsSound }
     ensures empty { EmptyIsSound }
 {}
 

@@ -29,7 +29,7 @@ module _ (es : List Element) where
 -- the numbers of those of the ids, in one list behind another
 pub serials-both : (ids : List ExGuid) (added fresh : List Element)
     → map (λ k. k.serial) (filter (is_one_of ids) (numbered_from 1 added)) ++ map (λ k. k.serial) (filter (is_one_of ids) (numbered_from (length added + 1) fresh))
-      ≡ map (λ k. k.serial) (filter (is_one_of ids) (numbered_from 1 (added ++ fresh)))
+    ≡ map (λ k. k.serial) (filter (is_one_of ids) (numbered_from 1 (added ++ fresh)))
 serials-both ids added fresh =
     let first = numbered_from 1 added in
     let then = numbered_from (1 + length added) fresh in

@@ -5,4 +5,5 @@ pub mod Weighing
 pub mod Sending
 pub mod Uploading
 pub mod Filing
+pub mod Refusing
 pub mod Reaching

@@ -13,9 +13,11 @@
 mod catalog;
 mod chains;
 mod checking;
+mod content;
 mod file;
 mod naming;
 mod plain;
+mod plan_put;
 mod pull;
 mod put;
 mod reaching;
@@ -24,13 +26,4 @@ mod serials;
 mod uploads;
 mod weighing;
 
-pub use catalog::Catalog;
-pub use chains::has_chains;
-pub use checking::any_invalid;
-pub use file::{Filed, file_at};
 pub use plain::{Change, PlainCore};
-pub use put::{Sent, entry_refusal, too_much_added, version_refusal};
-pub use reaching::is_heavy;
-pub use serials::{ids_of, serials_in};
-pub use uploads::{other_parts, pending};
-pub use weighing::weigh;

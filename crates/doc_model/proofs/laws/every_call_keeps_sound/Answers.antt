@@ -1,5 +1,4 @@
 use Rattle.doc_model.proofs.KeepsSound.{keeps-sound, empty-sound}
-use Rattle.doc_model.proofs.SoundLocks.{step-sound}
 use Rattle.doc_model.proofs.laws.every_call_keeps_sound.Goals as goal
 
 pub returns-clause-kept : goal.returns-clause-kept
@@ -7,6 +6,3 @@ returns-clause-kept c = keeps-sound
 
 pub returns-clause-empty : goal.returns-clause-empty
 returns-clause-empty c = empty-sound
-
-pub returns-clause-step : goal.returns-clause-step
-returns-clause-step c = step-sound

@@ -9,5 +9,5 @@ returns c =
     let sent = c.args.sent.now in
     c.in_ok-add_serials-2.ensures
     ∙ ap (λ before. before ++ map (λ n. n.serial) (filter (is_one_of sent) (numbered_from (length c.args.added.now + 1) c.args.fresh.now)))
-      (c.in_ok-add_serials.ensures ∙ ap (λ none. none ++ map (λ n. n.serial) (filter (is_one_of sent) (numbered_from 1 c.args.added.now))) c.new-serials.ensures)
+    (c.in_ok-add_serials.ensures ∙ ap (λ none. none ++ map (λ n. n.serial) (filter (is_one_of sent) (numbered_from 1 c.args.added.now))) c.new-serials.ensures)
     ∙ serials-both sent c.args.added.now c.args.fresh.now

@@ -12,7 +12,7 @@ returns c =
     let es = sent c.args.self.now in
     subst (λ serials. IfOk c.ranges_of.result (λ ranges. ranges ≡ ranges_of c.args.guid serials))
     (c.as_slice.ensures ∙ c.in_ok-serials.ensures
-      ∙ ap (λ all. map (λ n. n.serial) (filter (is_one_of c.in_ok-ids.ids) (numbered_from 1 all))) c.slices.ensures
+    ∙ ap (λ all. map (λ n. n.serial) (filter (is_one_of c.in_ok-ids.ids) (numbered_from 1 all))) c.slices.ensures
     ∙ ap (λ ids. map (λ n. n.serial) (filter (is_one_of ids) (numbered_from 1 (listed c.args.catalog.now)))) c.in_ok-ids.ensures
     ∙ ap (map (λ n. n.serial)) (sent-by-id es (numbered_from 1 (listed c.args.catalog.now))))
     c.ranges_of.ensures
