@@ -227,18 +227,4 @@ impl<'a> Catalog<'a> {
             },
         }
     }
-
-    /// The elements that it was made with.
-    pub fn added(&self) -> &[Element]
-        ensures { result.now ≡ self.now.added.now }
-    {
-        self.added
-    }
-
-    /// The elements that were added behind them.
-    pub fn fresh(&self) -> &[Element]
-        ensures { result.now ≡ self.now.fresh }
-    {
-        self.fresh.as_slice()
-    }
 }
