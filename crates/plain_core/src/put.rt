@@ -52,7 +52,7 @@ impl Sent<'_> {
 
     /// Its elements, copied.
     pub fn copied(&self, alloc: Global) -> Result<Elements, NoMemory>
-        ensures { IfOk result (λ es. es ≡ sent self.now) }
+        ensures { IfOk result (λ es. es ≡ elements_of self.now) }
     {
         let mut elements = Seq::copied_from(alloc, self.pending)?;
         elements.append(Seq::copied_from(alloc, self.package)?)?;
