@@ -31,6 +31,7 @@ const MOST_PARTS: usize = 8;
 const MOST_PARTS_WEIGHT: u128 = 64 * 1_048_576;
 
 /// What an upload speaks of: the elements that were kept for it, and then those of its package.
+#[derive(Clone, Copy)]
 pub struct Sent<'a> {
     pub pending: &'a [Element],
     pub package: &'a [Element],
@@ -101,8 +102,7 @@ impl Sent<'_> {
         ensures { IfOk result (λ ranges. ranges ≡ ranges_of guid (serials_of (listed catalog.now) (sent self.now))) }
     {
         let ids = ids_of(alloc, self.pending, self.package)?;
-        let (added, fresh) = catalog.slices();
-        let serials = serials_in(alloc, &ids, added, fresh)?;
+        let serials = serials_in(alloc, &ids, catalog.added(), catalog.fresh())?;
         ranges_of(alloc, guid, serials.as_slice())
     }
 }
@@ -112,7 +112,8 @@ pub fn too_much_added(catalog: &Catalog<'_>) -> bool
     requires { all_few (listed catalog.now) ≡ true }
     ensures { result ≡ too_much_added (listed catalog.now) }
 {
-    let (added, fresh) = catalog.slices();
+    let added = catalog.added();
+    let fresh = catalog.fresh();
     if added.len() > MOST_ADDED || fresh.len() > MOST_ADDED - added.len() {
         return true;
     }
