@@ -17,6 +17,7 @@ mod content;
 mod file;
 mod naming;
 mod plain;
+mod plan_lock;
 mod plan_put;
 mod pull;
 mod put;
