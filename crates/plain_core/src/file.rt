@@ -1,8 +1,8 @@
 // The file at an index.
-ghost use Rattle.std.specs.Prelude.{◌≡◌, ◌∷◌, ◌++◌, None, map, flat_map, IfOk, OnOk, option_map, option_copied, option_and_then, find, unwrap_or, []};
+ghost use Rattle.std.specs.Prelude.{◌≡◌, ◌∷◌, ◌++◌, None, map, flat_map, IfOk, OnOk, option_map, option_copied, option_and_then, find, []};
 ghost use Rattle.compact_values.specs.SameIds.{same_cell};
-ghost use Rattle.doc_model.specs.Files.{current_revision, root_chain, group_objects, revision_objects, objects_of, own_bytes, root_object, file};
-ghost use Rattle.doc_model.specs.Finding.{first, said, as_cell};
+ghost use Rattle.doc_model.specs.Files.{current_revision, root_chain, group_objects, own_bytes, root_object, file};
+ghost use Rattle.doc_model.specs.Finding.{said, as_cell};
 ghost use Rattle.doc_model.specs.Reached.{absent, chain, longest};
 ghost use Rattle.plain_core.specs.Cataloging.{listed};
 ghost use Rattle.plain_core.specs.Filing.{IsFiled, without_file, stored, objects_with_bytes, file_with_bytes};

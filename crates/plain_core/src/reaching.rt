@@ -1,8 +1,8 @@
 // What is reached from an index.
-ghost use Rattle.std.specs.Prelude.{◌≡◌, ◌+◌, ◌<◌, true, nat_lt, map, filter, IfOk};
+ghost use Rattle.std.specs.Prelude.{◌≡◌, ◌+◌, ◌<◌, true, nat_lt, map, IfOk};
 ghost use Rattle.std.specs.Option.{MatchOption};
 ghost use Rattle.doc_model.specs.Limits.{most_reached_weight};
-ghost use Rattle.doc_model.specs.Reached.{reached_from, is_among};
+ghost use Rattle.doc_model.specs.Reached.{reached_from};
 ghost use Rattle.doc_model.specs.Weights.{weight_of};
 ghost use Rattle.plain_core.specs.Cataloging.{listed};
 ghost use Rattle.plain_core.specs.Reaching.{among};

@@ -1,6 +1,5 @@
-use Rattle.std.proofs.Common.{◌≡◌, ◌∙◌, sym, ap, subst, List, ℕ, Option, map, option_map}
+use Rattle.std.proofs.Common.{◌∙◌, sym, ap, subst, List, ℕ, Option, map, option_map}
 use Rattle.std.specs.Prelude.{IfOk}
-use Rattle.doc_model.specs.Files.{file}
 use Rattle.plain_core.specs.Cataloging.{listed}
 use Rattle.plain_core.specs.Filing.{IsFiled, file_with_bytes}
 use Rattle.plain_core.specs.Sayings.{seen_manifest}
