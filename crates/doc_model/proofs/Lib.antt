@@ -17,6 +17,8 @@ pub mod KeepsMembers
 pub mod UnderLock
 pub mod Following
 pub mod Rows
+pub mod AllFirst
+pub mod SizeBounds
 pub mod LastCommit
 pub mod SameIndex
 pub mod SoundLocks

@@ -1,4 +1,4 @@
--- Where nothing is refused, none of the reasons holds; and what the tests say that don't hold.
+-- Nothing is refused exactly where none of the reasons holds; and what the tests say that don't hold.
 use Rattle.std.proofs.Common.{◌≡◌, ◌⊎◌, ℕ, ◌≤◌, refl, Bool, true, false, not, ◌&&◌, ◌||◌, List, [], ◌∷◌, None, nat_lt, inl, inr, arith}
 use Rattle.std.proofs.lemmas.Bool.Decides.{nat_tests}
 use Rattle.doc_model.specs.declared.reply.Code.{Code}
@@ -14,6 +14,12 @@ pub none-holds : (rs : List (Bool × Code)) → first_refusal rs ≡ None → No
 none-holds [] h = tt
 none-holds ((false, c) ∷ rs) h = (refl, none-holds rs h)
 none-holds ((true, c) ∷ rs) h = cc
+
+-- and where none of the reasons holds, nothing is refused
+pub no-refusal : (rs : List (Bool × Code)) → NoneHolds rs → first_refusal rs ≡ None
+no-refusal [] h = refl
+no-refusal ((false, c) ∷ rs) h = no-refusal rs h.1
+no-refusal ((true, c) ∷ rs) h = cc
 
 pub not-false : (b : Bool) → not b ≡ false → b ≡ true
 not-false true h = refl

@@ -28,7 +28,7 @@ length-filter p (x ∷ xs) = at (p x) (length-filter p xs)
     at true r = omega (arith, r)
     at false r = omega (arith, r)
 
-sum-filter : {X : Type 0} (f : X → ℕ) (p : X → Bool) (xs : List X) → sum_by f (filter p xs) ≤ sum_by f xs
+pub sum-filter : {X : Type 0} (f : X → ℕ) (p : X → Bool) (xs : List X) → sum_by f (filter p xs) ≤ sum_by f xs
 sum-filter f p [] = omega arith
 sum-filter f p (x ∷ xs) = at (p x) (sum-filter f p xs)
   where

@@ -1,6 +1,17 @@
+pub mod TableSteps
+pub mod WalkTables
+pub mod IndexSteps
+pub mod Joins
+pub mod NodeReading
+pub mod WalkLaws
+pub mod Heights
+pub mod FileJoins
+pub mod FileAnswerLaws
 pub mod PieceLaws
 pub mod PartLaws
 pub mod FindLaws
 pub mod FileLaw
 pub mod ChunkedFile
 pub mod References
+pub mod ChunkWeight
+pub mod AcceptedFile

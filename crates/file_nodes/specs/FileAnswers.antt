@@ -1,0 +1,49 @@
+-- What the reader of a file answers.
+use Rattle.std.specs.Prelude.{◌≡◌, ℕ, ◌<◌, ◌≤◌, ◌⊎◌, List, length, Option, Some, None, Result, Ok, Err}
+use Rattle.compact_values.specs.declared.ids.ExGuid.{ExGuid}
+use Rattle.doc_model.specs.FileObjects.{root_file}
+use Rattle.file_nodes.specs.FileWalks.{stored_objects, first_fault}
+use Rattle.file_nodes.specs.declared.fault.NodeFault.{NodeFault}
+use Rattle.file_nodes.specs.declared.fault.NodeFault.TheVariants.{Absent, TooHigh, NotANode, SizeDiffers, TooLarge, NoMemory}
+use Rattle.file_nodes.specs.declared.object_map.StoredObject.{StoredObject}
+
+-- the most bytes that a file may have: 16 MiB
+abbrev pub largest_file : ℕ
+largest_file = 16777216
+
+-- the file that a root stands for, where it is defined
+abbrev pub stored_file : List StoredObject → ExGuid → Option (List ℕ)
+stored_file objects root = root_file (stored_objects objects) root
+
+-- A file is defined exactly where a walk has no fault, and its length is the one that was found.
+abbrev pub Agrees : Option (List ℕ) → Result ℕ NodeFault → Type 0
+Agrees (Some file) (Ok size) = size ≡ length file
+Agrees None (Err fault) = Unit {0}
+Agrees (Some file) (Err fault) = ⊥
+Agrees None (Ok size) = ⊥
+
+-- This is the file, and it isn't too large.
+abbrev pub IsFile : List StoredObject → ExGuid → List ℕ → Type 0
+IsFile objects root file = (stored_file objects root ≡ Some file) × (length file ≤ largest_file)
+
+-- There is a file, and it is too large.
+abbrev pub IsTooLarge : List StoredObject → ExGuid → Type 0
+IsTooLarge objects root = (file : List ℕ) × (stored_file objects root ≡ Some file) × (largest_file < length file)
+
+-- What an answer says. A fault of the walk is the first one.
+abbrev pub IsFileAnswer : List StoredObject → ExGuid → Result (List ℕ) NodeFault → Type 0
+IsFileAnswer objects root (Ok file) = IsFile objects root file
+IsFileAnswer objects root (Err (Absent id)) = first_fault objects root ≡ Some (Absent id)
+IsFileAnswer objects root (Err TooHigh) = first_fault objects root ≡ Some TooHigh
+IsFileAnswer objects root (Err (NotANode id)) = first_fault objects root ≡ Some (NotANode id)
+IsFileAnswer objects root (Err (SizeDiffers said found)) = first_fault objects root ≡ Some (SizeDiffers said found)
+IsFileAnswer objects root (Err TooLarge) = IsTooLarge objects root
+IsFileAnswer objects root (Err NoMemory) = Unit {0}
+
+-- The answer is this one, unless memory was wanting.
+abbrev pub IsOrNoMemory : Result (List ℕ) NodeFault → Result (List ℕ) NodeFault → Type 0
+IsOrNoMemory answer this = (answer ≡ this) ⊎ (answer ≡ Err NoMemory)
+
+-- The answer is this one exactly where the fact holds, want of memory aside.
+abbrev pub Exactly : Result (List ℕ) NodeFault → Result (List ℕ) NodeFault → Type 0 → Type 0
+Exactly answer this Fact = (answer ≡ this → Fact) × (Fact → IsOrNoMemory answer this)
