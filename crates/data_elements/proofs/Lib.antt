@@ -12,6 +12,7 @@ pub mod Links
 pub mod GroupLaws
 pub mod ElementLaws
 pub mod NumberedLaws
+pub mod NumberedAnswer
 pub mod PackageAnswer
 pub mod KnowledgeLaws
 pub mod KnowledgeAnswer

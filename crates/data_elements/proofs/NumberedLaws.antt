@@ -1,7 +1,7 @@
 -- What is read of elements with their serial numbers is what their objects say, or where the first of them that isn't in its
 -- form starts.
-use Rattle.std.proofs.Common.{◌≡◌, ℕ, true, List, [], ◌∷◌, ◌++◌, map, Option, Some, None, Result, Ok, Err, inl, inr, refl, sym, ap, subst, ◌∙◌, append_assoc}
-use Rattle.std.specs.Prelude.{◌==◌, if◌then◌else◌}
+use Rattle.std.proofs.Common.{◌≡◌, ℕ, List, [], ◌∷◌, ◌++◌, map, Option, Some, None, Result, Ok, Err, inl, inr, refl, sym, ap, subst, ◌∙◌, append_assoc}
+use Rattle.std.specs.Prelude.{◌==◌}
 use Rattle.std.specs.List.{AllByRecursion, flat_map}
 use Rattle.std.proofs.lemmas.Bool.{cases_Bool}
 use Rattle.std.proofs.lemmas.List.{append-nil}
@@ -12,7 +12,7 @@ use Rattle.compact_values.specs.declared.ids.Serial.TheVariants.{Null, Number}
 use Rattle.compact_values.proofs.LittleEndian.{IsBytes}
 use Rattle.stream_objects.specs.declared.tree.Tree.{Tree}
 use Rattle.stream_objects.specs.declared.tree.Tree.TheViews.{out-Tree}
-use Rattle.stream_objects.specs.Objects.{Each, start_of, children_of}
+use Rattle.stream_objects.specs.Objects.{Each, children_of}
 use Rattle.stream_objects.specs.Parts.{IsFirstBroken}
 use Rattle.stream_objects.specs.Gathering.{and_then}
 use Rattle.stream_objects.proofs.Broken.{Judges, all-append, broken_left, broken_right}
@@ -20,7 +20,7 @@ use Rattle.doc_model.specs.ElementObjects.{ElementFields, PackageFields}
 use Rattle.doc_model.specs.ElementParts.{Part, element, child, member, has_place, members_in, child_parts, parts_behind, element_row, element_parts, package_parts, part_start}
 use Rattle.doc_model.specs.ElementParts as elements
 use Rattle.doc_model.specs.Elements.{SaysBody}
-use Rattle.doc_model.specs.NumberedElements.{IsNumbered, IsNumberedPackage, HasSerial, InOwnForm}
+use Rattle.doc_model.specs.NumberedElements.{IsNumbered, IsNumberedPackage, InOwnForm}
 use Rattle.doc_model.specs.declared.element.Body.{Body}
 use Rattle.doc_model.specs.declared.element.NumberedElement.{NumberedElement}
 use Rattle.data_elements.specs.Rows.{package_row}
@@ -115,10 +115,10 @@ module _ (input : List ℕ) (fits : IsBytes input) where
   -- ---- a package
 
   -- what was read of these elements behind others
-  pub record Behind (ts : List Tree) (ns all : List NumberedElement) : Type 0 where
-    pub new : List NumberedElement
-    pub all_are : all ≡ ns ++ new
-    pub each : Each (IsNumbered input) ts new
+  record Behind (ts : List Tree) (ns all : List NumberedElement) : Type 0 where
+    new : List NumberedElement
+    all_are : all ≡ ns ++ new
+    each : Each (IsNumbered input) ts new
 
   abbrev JudgesElements : List Tree → List NumberedElement → Result (List NumberedElement) ℕ → Type 0
   JudgesElements ts ns = Judges Own part_start (Behind ts ns) (flat_map (element_parts input) ts)
@@ -140,21 +140,15 @@ module _ (input : List ℕ) (fits : IsBytes input) where
   judges_elements [] ns = (record { new = []; all_are = sym (append-nil ns); each = tt }, tt)
   judges_elements (t ∷ ts) ns = then_elements t ts ns (judges_elements ts) (numbered_at input t) (judges_numbered t)
 
-  -- the elements of a package behind others
-  pub record PackageBehind (t : Tree) (ns all : List NumberedElement) : Type 0 where
-    pub new : List NumberedElement
-    pub all_are : all ≡ ns ++ new
-    pub is : IsNumberedPackage input t new
-
-  pub judges_numbered_package : (t : Tree) (ns : List NumberedElement) → Judges Own part_start (PackageBehind t ns) (package_parts input t) (numbered_package_at input ns t)
+  pub judges_numbered_package : (t : Tree) → Judges Own part_start (IsNumberedPackage input t) (package_parts input t) (numbered_package_at input t)
   unfolding numbered_package_at
-  judges_numbered_package t ns = go (package_row input t) refl where
-    made : PackageFields input t → (r : Result (List NumberedElement) ℕ) → JudgesElements (children_of 0x01 t) ns r → Judges Own part_start (PackageBehind t ns) (package_parts input t) r
-    made h (Ok all) j = (record { new = j.0.new; all_are = j.0.all_are; is = (h, j.0.each) }, (h, j.1))
+  judges_numbered_package t = go (package_row input t) refl where
+    made : PackageFields input t → (r : Result (List NumberedElement) ℕ) → JudgesElements (children_of 0x01 t) [] r → Judges Own part_start (IsNumberedPackage input t) (package_parts input t) r
+    made h (Ok all) j = ((h, subst (λ (l : List NumberedElement). Each (IsNumbered input) (children_of 0x01 t) l) (sym j.0.all_are) j.0.each), (h, j.1))
     made h (Err place) j = inr (h, j)
 
-    go : (o : Option ℕ) → package_row input t ≡ o → Judges Own part_start (PackageBehind t ns) (package_parts input t) (numbered_package_with input ns t o)
-    go (Some b) e = made (package_found input fits t b e) (numbered_from input ns (children_of 0x01 t)) (judges_elements (children_of 0x01 t) ns)
+    go : (o : Option ℕ) → package_row input t ≡ o → Judges Own part_start (IsNumberedPackage input t) (package_parts input t) (numbered_package_with input t o)
+    go (Some b) e = made (package_found input fits t b e) (numbered_from input [] (children_of 0x01 t)) (judges_elements (children_of 0x01 t) [])
     go None e = inl (λ own. let some = package_again input fits t own in absurd cc, refl)
 
   again_elements : (ts : List Tree) (ns acc : List NumberedElement) → Each (IsNumbered input) ts ns → numbered_from input acc ts ≡ Ok (acc ++ ns)
@@ -165,6 +159,6 @@ module _ (input : List ℕ) (fits : IsBytes input) where
       ap (λ (r : Result NumberedElement ℕ). and_then r (λ x. numbered_from input (acc ++ x ∷ []) ts)) (again_numbered t n h.0) ∙ again_elements ts ns (acc ++ n ∷ []) h.1
       ∙ ap Ok (append_assoc acc (n ∷ []) ns)
 
-  pub again_numbered_package : (t : Tree) (ns new : List NumberedElement) → IsNumberedPackage input t new → numbered_package_at input ns t ≡ Ok (ns ++ new)
+  pub again_numbered_package : (t : Tree) (ns : List NumberedElement) → IsNumberedPackage input t ns → numbered_package_at input t ≡ Ok ns
   unfolding numbered_package_at
-  again_numbered_package t ns new h = ap (numbered_package_with input ns t) (package_again input fits t h.0) ∙ again_elements (children_of 0x01 t) new ns h.1
+  again_numbered_package t ns h = ap (numbered_package_with input t) (package_again input fits t h.0) ∙ again_elements (children_of 0x01 t) ns [] h.1

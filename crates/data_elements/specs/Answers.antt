@@ -6,7 +6,10 @@ use Rattle.doc_model.specs.Elements.{IsPackage}
 use Rattle.doc_model.specs.ElementParts as elements
 use Rattle.doc_model.specs.Knowledges.{IsKnowledge}
 use Rattle.doc_model.specs.KnowledgeParts as knowledges
+use Rattle.doc_model.specs.NumberedElements.{IsNumberedPackage}
+use Rattle.doc_model.specs.NumberedElements as numbered
 use Rattle.doc_model.specs.declared.element.Element.{Element}
+use Rattle.doc_model.specs.declared.element.NumberedElement.{NumberedElement}
 use Rattle.doc_model.specs.declared.knowledge.Knowledge.{Knowledge}
 use Rattle.data_elements.specs.declared.fault.ElementFault.{ElementFault}
 use Rattle.data_elements.specs.declared.fault.ElementFault.TheVariants.{SchemaFault, TooMany, NoMemory}
@@ -25,6 +28,14 @@ IsKnowledgeAnswer input tree (Ok knowledge) = IsKnowledge input tree knowledge
 IsKnowledgeAnswer input tree (Err (SchemaFault place)) = IsFirstBroken (knowledges.InOwnForm input) knowledges.part_start (knowledges.knowledge_parts input tree) place
 IsKnowledgeAnswer input tree (Err TooMany) = ⊥
 IsKnowledgeAnswer input tree (Err NoMemory) = Unit {0}
+
+-- The elements of a package whose serial numbers aren't null, with the values of these; or where the fields of the first object
+-- start that isn't in its form.
+abbrev pub IsNumberedAnswer : List ℕ → Tree → Result (List NumberedElement) ElementFault → Type 0
+IsNumberedAnswer input tree (Ok ns) = IsNumberedPackage input tree ns
+IsNumberedAnswer input tree (Err (SchemaFault place)) = IsFirstBroken (numbered.InOwnForm input) elements.part_start (elements.package_parts input tree) place
+IsNumberedAnswer input tree (Err TooMany) = ⊥
+IsNumberedAnswer input tree (Err NoMemory) = Unit {0}
 
 -- Unless memory ran out, it is the only answer of its kind.
 abbrev pub IsOnly : {V : Type 0} → (Result V ElementFault → Type 0) → Result V ElementFault → Type 0

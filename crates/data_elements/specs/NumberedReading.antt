@@ -32,10 +32,9 @@ abbrev pub numbered_from : List ℕ → List NumberedElement → List Tree → R
 numbered_from input ns [] = Ok ns
 numbered_from input ns (t ∷ ts) = and_then (numbered_at input t) (λ n. numbered_from input (ns ++ n ∷ []) ts)
 
-abbrev pub numbered_package_with : List ℕ → List NumberedElement → Tree → Option ℕ → Result (List NumberedElement) ℕ
-numbered_package_with input ns t (Some b) = numbered_from input ns (children_of 0x01 t)
-numbered_package_with input ns t None = Err (start_of t)
+abbrev pub numbered_package_with : List ℕ → Tree → Option ℕ → Result (List NumberedElement) ℕ
+numbered_package_with input t (Some b) = numbered_from input [] (children_of 0x01 t)
+numbered_package_with input t None = Err (start_of t)
 
--- the elements of a package, behind those before
-unfoldable pub numbered_package_at : List ℕ → List NumberedElement → Tree → Result (List NumberedElement) ℕ
-numbered_package_at input ns t = numbered_package_with input ns t (package_row input t)
+unfoldable pub numbered_package_at : List ℕ → Tree → Result (List NumberedElement) ℕ
+numbered_package_at input t = numbered_package_with input t (package_row input t)

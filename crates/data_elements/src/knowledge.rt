@@ -15,7 +15,8 @@ use stream_objects::{Tree, compound_fields, only_child, simple_fields};
 /// The GUID of cell knowledge, 327a35f6-0761-4414-9686-51e900667a4d.
 const CELL_KNOWLEDGE: u128 = 0x327a_35f6_0761_4414_9686_51e9_0066_7a4d;
 
-fn guid_row(bytes: &[u8], tree: &Tree) -> Option<Guid>
+/// The GUID that is all the fields of a compound object. None where they are something else.
+pub fn guid_row(bytes: &[u8], tree: &Tree) -> Option<Guid>
     ensures { result ≡ guid_row bytes.now tree.now }
 {
     let fields = compound_fields(bytes, tree)?;

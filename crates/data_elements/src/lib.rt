@@ -34,9 +34,10 @@ mod write_index;
 mod write_manifests;
 
 pub use fault::ElementFault;
-pub use knowledge::read_knowledge;
+pub use knowledge::{guid_row, read_knowledge};
 pub use numbered::read_numbered;
 pub use package::read_package;
+pub use rows::{has_no_fields, package_row};
 pub use wire_fault::WireFault;
 pub use write::{write_element, write_knowledge, write_package};
 

@@ -35,7 +35,7 @@ pub fn element_row(bytes: &[u8], tree: &Tree) -> Option<(ExGuid, (Serial, u64))>
     }
 }
 
-/// The byte of a package.
+/// The byte that is all the fields of a compound object, as of a package. None where they are something else.
 pub fn package_row(bytes: &[u8], tree: &Tree) -> Option<u8>
     ensures { result ≡ package_row bytes.now tree.now }
 {

@@ -9,9 +9,9 @@ use Rattle.doc_model.specs.declared.element.Body.{Body}
 use Rattle.doc_model.specs.declared.element.Name.{Name}
 use Rattle.doc_model.specs.declared.element.RevisionMap.{RevisionMap}
 use Rattle.doc_model.specs.Finding.{Mappings, find_element, said, as_index, as_storage, as_cell, as_group, as_blob, as_revision}
-use Rattle.doc_model.specs.Laws.{AllNamed, NamesStay, FileStays}
+use Rattle.doc_model.specs.Laws.{AllNamed, NamesStay, ChainStays, FileStays}
 use Rattle.doc_model.specs.Reached.{names, names_below, mapping_of, revision_name, storage_name, cell_name, group_name, blob_name, named_revisions, groups_of, blobs_of, cells_of, currents_of}
-use Rattle.doc_model.proofs.Agree.{names-same, file-same}
+use Rattle.doc_model.proofs.Agree.{names-same, root-chain-same, file-same}
 use Rattle.doc_model.proofs.EachItem.{each-as, each-append, each-both, all-each}
 
 -- what is found stays so when elements are added at the end
@@ -86,6 +86,9 @@ module _ (added : List Element) where
 
 pub names-stay : NamesStay
 names-stay added more index h = names-same added (added ++ more) index (same-added added more index h)
+
+pub chain-stays : ChainStays
+chain-stays added more index h = root-chain-same added (added ++ more) index (same-added added more index h)
 
 pub file-stays : FileStays
 file-stays added more index h = file-same added (added ++ more) index (same-added added more index h)

@@ -18,7 +18,7 @@ use Rattle.doc_model.specs.declared.element.Object.{Object}
 use Rattle.doc_model.specs.declared.element.Content.{Content}
 use Rattle.doc_model.specs.declared.element.Content.TheVariants.{Inline, Apart}
 use Rattle.doc_model.specs.FileObjects.{root_file}
-use Rattle.doc_model.specs.Files.{current_revision, objects_of, own_bytes, as_file_object, file_objects, root_object, file_of_chain, file, group_objects, revision_objects}
+use Rattle.doc_model.specs.Files.{current_revision, root_chain, objects_of, own_bytes, as_file_object, file_objects, root_object, file_of_chain, file, group_objects, revision_objects}
 use Rattle.doc_model.specs.Finding.{first, find_element, said, firsts, Manifest, Mappings, as_index, as_storage, as_cell, as_revision, as_group, as_blob}
 use Rattle.doc_model.specs.Reached.{name, mapping_of, manifest_of, base_of, named_along, named_revisions, reached, reached_from, enough, longest, chain, chains_end, revision_name, cell_name, storage_name, group_name, blob_name, groups_of, groups_by, blobs_of, blob_of, cells_of, same_cells, current_of, currents_of, names, names_below}
 use Rattle.doc_model.proofs.EachItem.{each-front, each-back, each-map, each-flat, each-flat-map, each-both, each-as, map-same, flat-same, all-same}
@@ -304,6 +304,14 @@ module _ (a b : List Element) where
       current_same : SameCurrent (current_revision b maps) (current_revision a maps)
       current_same = manifest_current maps.manifests storage_same
 
+      -- and so is its chain
+      chain_of_current : option_and_then (chain b maps.revisions longest) (current_revision b maps) ≡ option_and_then (chain a maps.revisions longest) (current_revision a maps)
+      chain_of_current = ap (option_and_then (chain b maps.revisions longest)) current_same.0 ∙ at (current_revision a maps) current_same.1
+        where
+          at : (o : Option ExGuid) → ((r : ExGuid) → o ≡ Some r → SameAlong maps r) → option_and_then (chain b maps.revisions longest) o ≡ option_and_then (chain a maps.revisions longest) o
+          at None s = refl
+          at (Some r) s = chain-same maps.revisions longest (enough maps.revisions) r (omega arith) (s r refl).0
+
       -- and so is the file
       abbrev by_chain : List Element → Option (List Manifest) → Option (List ℕ)
       by_chain x o = option_and_then (file_of_chain x) o
@@ -339,6 +347,16 @@ module _ (a b : List Element) where
   names-same index h =
       ap (λ o. name index o ∷ unwrap_or (option_map (names_below b) o) []) (said-same as_index index h.0)
       ∙ ap (λ ns. name index (said as_index a index) ∷ ns) (names-under (said as_index a index) h.1)
+
+  abbrev chain_under : List Element → Option Mappings → Option (List Manifest)
+  chain_under x o = option_and_then (λ maps. option_and_then (chain x maps.revisions longest) (current_revision x maps)) o
+
+  chains-under : (o : Option Mappings) → AllSame o → chain_under b o ≡ chain_under a o
+  chains-under None s = refl
+  chains-under (Some maps) s = chain_of_current maps s
+
+  pub root-chain-same : (index : ExGuid) → Each (λ n. Same n.id) (names a index) → root_chain b index ≡ root_chain a index
+  root-chain-same index h = ap (λ o. chain_under b o) (said-same as_index index h.0) ∙ chains-under (said as_index a index) h.1
 
   abbrev file_under : List Element → Option Mappings → Option (List ℕ)
   file_under x o = option_and_then (file_of_chain x) (option_and_then (λ maps. option_and_then (chain x maps.revisions longest) (current_revision x maps)) o)

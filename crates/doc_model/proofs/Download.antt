@@ -1,8 +1,7 @@
 -- What a client that knows nothing is sent has the document's file.
-use Rattle.std.proofs.Common.{◌≡◌, ◌≢◌, ℕ, ◌+◌, refl, sym, ◌∙◌, ap, Bool, true, false, ◌&&◌, ◌||◌, ◌==◌, cond, List, [], ◌∷◌, map, filter, find, length, Some, arith}
+use Rattle.std.proofs.Common.{◌≡◌, ◌≢◌, ℕ, ◌+◌, ◌-◌, refl, sym, ◌∙◌, ap, Bool, true, false, ◌&&◌, ◌||◌, cond, List, [], ◌∷◌, map, filter, find, length, Some}
 use Rattle.std.specs.List.{AllByRecursion as Each}
 use Rattle.std.proofs.lemmas.Bool.{false≢true}
-use Rattle.std.proofs.lemmas.Bool.Decides.{nat_tests}
 use Rattle.compact_values.specs.declared.guid.Guid.{Guid}
 use Rattle.compact_values.specs.declared.ids.ExGuid.{ExGuid}
 use Rattle.compact_values.specs.SameIds.{same_id}
@@ -12,10 +11,15 @@ use Rattle.doc_model.specs.declared.element.Name.{Name}
 use Rattle.doc_model.specs.declared.doc.Commit.{Commit}
 use Rattle.doc_model.specs.Finding.{find_element, numbered_from}
 use Rattle.doc_model.specs.Files.{file}
-use Rattle.doc_model.specs.Laws.{DownloadsTheFile, DownloadsNothing}
+use Rattle.doc_model.specs.Laws.{DownloadsTheFile, DownloadsWhatIsReached, DownloadsNothing}
 use Rattle.doc_model.specs.Pulls.{stored_index, named_ids, lacking, is_lacking}
-use Rattle.doc_model.specs.Reached.{is_among, names}
+use Rattle.doc_model.specs.Reached.{is_among, names, reached, reached_from}
+use Rattle.doc_model.specs.declared.doc.Doc.{Doc}
+use Rattle.doc_model.specs.Sound.{IsSoundCommit}
+use Rattle.std.specs.Prelude.{is_some}
 use Rattle.doc_model.proofs.Agree.{file-same}
+use Rattle.doc_model.proofs.LastCommit.{some-commits, last-commit, All-slice}
+use Rattle.doc_model.proofs.SoundCommits.{reached-from-named}
 use Rattle.doc_model.proofs.EachItem.{each-as}
 
 -- the elements under these ids
@@ -56,20 +60,32 @@ lacking-elements guid ids n (e ∷ es) = by-test (is_among ids e.id) (lacking-el
     by-test true r = ap (λ xs. e ∷ xs) r
     by-test false r = r
 
-some-commits : (cs : List Commit) → cs ≢ [] → (length cs == 0) ≡ false
-some-commits [] h = absurd (h refl)
-some-commits (c ∷ cs) h = grind (arith, nat_tests)
+module _ (doc : Doc) (some : doc.commits ≢ []) where
+  -- an empty knowledge is sent what is named from the stored index
+  pulled-among : map (λ e. e.element) (lacking doc.guid [] (named_ids doc.added doc.commits) doc.added) ≡ reached_from doc.added (stored_index doc.commits)
+  pulled-among =
+      lacking-elements doc.guid (named_ids doc.added doc.commits) 1 doc.added
+      ∙ ap (λ (b : Bool). among (cond b [] (map (λ n. n.id) (names doc.added (stored_index doc.commits)))) doc.added) (some-commits doc.commits some)
 
 pub downloads : DownloadsTheFile
 downloads doc some =
     let index = stored_index doc.commits in
     let ns = names doc.added index in
     let ids = map (λ (n : Name). n.id) ns in
-    let e : named_ids doc.added doc.commits ≡ ids = ap (λ b. cond b [] ids) (some-commits doc.commits some) in
-    ap (λ xs. file xs index) (lacking-elements doc.guid (named_ids doc.added doc.commits) 1 doc.added ∙ ap (λ is. among is doc.added) e)
+    ap (λ xs. file xs index) (pulled-among doc some)
     ∙ file-same doc.added (among ids doc.added) index
     (each-as (λ n. is_among ids n.id ≡ true) (λ n. find_element (among ids doc.added) n.id ≡ find_element doc.added n.id) ns
     (λ n h. found-among ids n.id doc.added h) (each-among ns ns (λ id h. h)))
+
+-- all that is reached, and a file, where the document is sound
+pub downloads-reached : DownloadsWhatIsReached
+downloads-reached doc s some =
+    let last = last-commit doc.commits some in
+    let c : IsSoundCommit doc last.0 = All-slice (IsSoundCommit doc) doc.commits (length doc.commits - 1) last.0 s.commits last.1 in
+    let reached-there = ap (λ (i : ExGuid). reached doc.added i) last.2 ∙ c.reached in (
+      reached-from-named doc.added (stored_index doc.commits) c.elements reached-there ∙ ap (λ (es : List Element). Some es) (sym (pulled-among doc some)),
+      ap (λ (i : ExGuid). is_some (file doc.added i)) last.2 ∙ ap (λ o. is_some o) c.file,
+    )
 
 -- without a commit nothing is named, so nothing is lacking
 none-lacking : (guid : Guid) (n : ℕ) (added : List Element) → filter (is_lacking guid [] []) (numbered_from n added) ≡ []

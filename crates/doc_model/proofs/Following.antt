@@ -15,6 +15,7 @@ use Rattle.doc_model.specs.Apply.{apply, by_kind, replay}
 use Rattle.doc_model.specs.Drawing.{can_draw}
 use Rattle.doc_model.specs.Files.{file}
 use Rattle.doc_model.specs.Laws.{Follows, CallsFollow, HistoriesFollow}
+use Rattle.doc_model.specs.Locking.{do_lock}
 use Rattle.doc_model.specs.Puts.{is_part, part_refusal, commit_refusal, kept, committed, fresh, sent_to}
 use Rattle.doc_model.specs.Sound.{IsSoundCommit, Sound, Valid}
 use Rattle.doc_model.specs.Turns.{Turn, unless}
@@ -63,6 +64,7 @@ module _ (doc : Doc) (s : Sound doc) where
   kind-follows m user (sub.Put p) =
       either doc (is_part p) _ _ (unless-refused doc (part_refusal doc m p) (kept doc m p) (same-content doc (kept doc m p).doc refl refl))
       (unless-refused doc (commit_refusal doc m p) (committed doc m user p) (committed-follows m user p))
+  kind-follows m user (sub.Lock step) = same-content doc (do_lock doc m step).doc refl refl
   kind-follows m user (sub.Draw count) =
       either doc (can_draw doc count) _ _ (same-content doc (record doc { drawn = doc.drawn + count }) refl refl) (same-content doc doc refl refl)
 

@@ -1,11 +1,10 @@
--- A live lock is kept by every step but those of its own holders.
-use Rattle.std.proofs.Common.{◌≡◌, ◌⊎◌, ℕ, zero, suc, ◌+◌, ◌<◌, refl, sym, ◌∙◌, ap, subst, Bool, true, false, not, cond, nat_lt, List, [], ◌∷◌, length, filter, inl, inr, ⊎_elim, ◌==◌, arith}
-use Rattle.std.proofs.lemmas.Bool.Decides.{nat_tests}
-use Rattle.std.proofs.lemmas.List.Elements.{All-from_recursion}
-use Rattle.std.specs.List.{AllByRecursion as Each, All, Any, list_any}
+-- A live lock is kept by every call but those of its own holder.
+use Rattle.std.proofs.Common.{◌≡◌, ◌⊎◌, ℕ, ◌+◌, refl, sym, ◌∙◌, subst, Bool, true, false, cond, nat_lt, List, [], ◌∷◌, filter, inl, inr}
 use Rattle.compact_values.specs.declared.guid.Guid.{Guid}
 use Rattle.compact_values.specs.SameIds.{same_guid}
 use Rattle.compact_values.proofs.SameIds.{guid-same}
+use Rattle.doc_model.specs.declared.call.Sub.{Sub}
+use Rattle.doc_model.specs.declared.call.Sub.TheVariants as sub
 use Rattle.doc_model.specs.declared.doc.Doc.{Doc}
 use Rattle.doc_model.specs.declared.lock.LockRecord.{LockRecord}
 use Rattle.doc_model.specs.declared.lock.LockRecord.TheVariants.{Free, Exclusive, Shared}
@@ -13,17 +12,20 @@ use Rattle.doc_model.specs.declared.lock.LockStep.{LockStep}
 use Rattle.doc_model.specs.declared.lock.LockStep.TheVariants as step
 use Rattle.doc_model.specs.declared.lock.Member.{Member}
 use Rattle.doc_model.specs.declared.reply.Code.TheVariants as code
-use Rattle.doc_model.specs.LockLaws.{EndsExclusive, SetsExclusive, StaysExclusive, EndsMember, SetsMember, IsStill, StaysMember, StepKeepsExclusive, StepKeepsMembers}
-use Rattle.doc_model.specs.LockSteps.{LockTurn, becomes, refuses, stays, leaves, lock_turn, lock_after, lock_moved, member, is_client, others, with_client}
+use Rattle.doc_model.specs.Apply.{by_kind}
+use Rattle.doc_model.specs.Drawing.{draw}
+use Rattle.doc_model.specs.LockLaws.{EndsExclusive, SetsExclusive, StaysExclusive, ByStep, KeepsExclusive}
+use Rattle.doc_model.specs.LockSteps.{LockTurn, becomes, refuses, stays, lock_turn, lock_after, lock_moved, member}
 use Rattle.doc_model.specs.Locks.{live, shared_by, is_live}
-use Rattle.doc_model.proofs.EachItem.{each-as}
+use Rattle.doc_model.specs.Puts.{put}
+use Rattle.doc_model.proofs.OtherLocks.{put-lock, draw-lock}
 
 -- by a test, and by whether two ids are one
-by-test : (b : Bool) (P : Bool → Type 0) → (b ≡ true → P true) → (b ≡ false → P false) → P b
+pub by-test : (b : Bool) (P : Bool → Type 0) → (b ≡ true → P true) → (b ≡ false → P false) → P b
 by-test true P p q = p refl
 by-test false P p q = q refl
 
-by-same : (held id : Guid) (P : Bool → Type 0) → (id ≡ held → P true) → P false → P (same_guid held id)
+pub by-same : (held id : Guid) (P : Bool → Type 0) → (id ≡ held → P true) → P false → P (same_guid held id)
 by-same held id P own other = by-test (same_guid held id) P (λ e. own (sym (guid-same held id e))) (λ e. other)
 
 -- a live exclusive lock is the one that is kept
@@ -75,7 +77,25 @@ module _ (id : Guid) (u m : ℕ) (l : LockRecord) (e : l ≡ Exclusive id u) whe
   exclusive-kept (step.Status sc c) = same (step.Status sc c)
   exclusive-kept (step.Mark sc c) = same (step.Mark sc c)
 
-pub step-keeps-exclusive : StepKeepsExclusive
-step-keeps-exclusive doc m s id u e =
-    subst (λ (x : LockRecord). Kept id u m doc.lock (live-exclusive doc.lock m id u e) s (cond (lock_moved (lock_turn m s x)) (lock_after x (lock_turn m s x)) doc.lock)) (sym e)
-    (exclusive-kept id u m doc.lock (live-exclusive doc.lock m id u e) s)
+module _ (doc : Doc) (m : ℕ) (user : List ℕ) (id : Guid) (u : ℕ) (e : live doc.lock m ≡ Exclusive id u) where
+  -- what is to be shown of a call and the lock after it
+  abbrev KeptBy : Sub → LockRecord → Type 0
+  KeptBy s now = ByStep s (EndsExclusive id) ⊎ StaysExclusive id u (ByStep s (SetsExclusive id)) now
+
+  is : doc.lock ≡ Exclusive id u
+  is = live-exclusive doc.lock m id u e
+
+  as-before : (s : Sub) (now : LockRecord) → now ≡ doc.lock → KeptBy s now
+  as-before s now h = subst (λ (x : LockRecord). KeptBy s x) (sym (h ∙ is)) (inr (refl, inl refl))
+
+  kind-keeps : (s : Sub) → KeptBy s (by_kind doc m user s).doc.lock
+  kind-keeps sub.Access = as-before sub.Access doc.lock refl
+  kind-keeps (sub.Pull knowledge) = as-before (sub.Pull knowledge) doc.lock refl
+  kind-keeps (sub.Put p) = as-before (sub.Put p) (put doc m user p).doc.lock (put-lock doc m user p)
+  kind-keeps (sub.Draw count) = as-before (sub.Draw count) (draw doc count).doc.lock (draw-lock doc count)
+  kind-keeps (sub.Lock s) =
+      subst (λ (x : LockRecord). KeptBy (sub.Lock s) (cond (lock_moved (lock_turn m s x)) (lock_after x (lock_turn m s x)) doc.lock)) (sym e)
+      (exclusive-kept id u m doc.lock is s)
+
+pub keeps-exclusive : KeepsExclusive
+keeps-exclusive doc call id u e = kind-keeps doc call.moment call.user id u e call.sub

@@ -1,31 +1,35 @@
 -- Every call that may be made leaves a document sound.
-use Rattle.std.proofs.Common.{◌≡◌, ◌≢◌, ℕ, ◌+◌, ◌≤◌, refl, sym, ◌∙◌, Bool, true, false, ◌&&◌, cond, List, [], length, nat_le, nat_lt, Option, Some, None, arith}
+use Rattle.std.proofs.Common.{◌≡◌, ◌≢◌, ℕ, ◌+◌, ◌≤◌, refl, sym, ◌∙◌, subst, Bool, true, false, ◌&&◌, cond, List, [], length, map, nat_le, nat_lt, Option, Some, None, arith}
 use Rattle.std.proofs.lemmas.Bool.Decides.{nat_tests}
 use Rattle.std.proofs.lemmas.List.{append-nil}
 use Rattle.std.proofs.lemmas.List.Elements.{All-from_recursion, All-append, All-nil, All-push, All-weaker}
-use Rattle.std.specs.List.{AllByRecursion as Each, All}
+use Rattle.std.specs.List.{AllByRecursion as Each, All, IsDistinct}
 use Rattle.compact_values.specs.declared.ids.ExGuid.TheVariants.{Null}
+use Rattle.compact_values.specs.SameIds.{same_id}
 use Rattle.doc_model.specs.declared.call.Put.{Put}
 use Rattle.doc_model.specs.declared.call.Sub.{Sub}
 use Rattle.doc_model.specs.declared.call.Sub.TheVariants as sub
 use Rattle.doc_model.specs.declared.doc.Doc.{Doc}
 use Rattle.doc_model.specs.declared.doc.Commit.{Commit}
 use Rattle.doc_model.specs.declared.element.Element.{Element}
+use Rattle.doc_model.specs.declared.lock.LockRecord.{LockRecord}
 use Rattle.doc_model.specs.declared.reply.Code.{Code}
 use Rattle.doc_model.specs.Apply.{by_kind}
 use Rattle.doc_model.specs.Drawing.{draw, can_draw, last_number}
 use Rattle.doc_model.specs.Laws.{KeepsSound, EmptyIsSound}
+use Rattle.doc_model.specs.Locking.{do_lock}
 use Rattle.doc_model.specs.Limits.{most_added, most_added_weight, most_objects}
 use Rattle.doc_model.specs.Puts.{put, is_part, part_reasons, commit_reasons, kept, committed, sent_to, added_by, fresh, other_parts, has_invalid, too_many_parts}
-use Rattle.doc_model.specs.Sound.{IsSoundElement, IsSoundCommit, Sound, IsValidSub}
+use Rattle.doc_model.specs.Sound.{IsSoundElement, IsSoundCommit, AreSoundParts, AreSoundMembers, AreSoundEditors, Sound, IsValidSub}
 use Rattle.doc_model.specs.Turns.{Turn, first_refusal, unless}
 use Rattle.doc_model.specs.Weights.{objects_written, weight_of}
 use Rattle.doc_model.proofs.Distinct.{distinct-none}
 use Rattle.doc_model.proofs.EachItem.{each-as}
-use Rattle.doc_model.proofs.OnStored.{NoneHolds, none-holds, and-both, or-neither}
 use Rattle.doc_model.proofs.SoundCommits.{commit-later, commit-new, distinct-commits}
-use Rattle.doc_model.proofs.SoundElements.{IsOwned, each-fresh, each-owned, each-sound, element-later, distinct-added, fresh-new, not-less}
+use Rattle.doc_model.proofs.SoundElements.{IsOwned, each-fresh, each-owned, each-sound, element-later, distinct-added, fresh-new}
+use Rattle.doc_model.proofs.SoundLocks.{lock-sound}
 use Rattle.doc_model.proofs.SoundParts.{others-sound, parts-later, sent-few, with-part}
+use Rattle.doc_model.proofs.Reasons.{NoneHolds, and-both, none-holds, not-less, or-neither}
 
 -- a turn by a test, and one that may be refused
 either : (b : Bool) (x y : Turn) → (b ≡ true → Sound x.doc) → Sound y.doc → Sound (cond b x y).doc
@@ -59,24 +63,44 @@ within drawn count most h = at (and-both (nat_le 1 count && nat_le count 100_000
     at : nat_le (drawn + count) most ≡ true → drawn + count ≤ most
     at e = grind (arith, nat_tests)
 
+-- a document with the same elements and versions, of which more may be drawn
+pub record SameContent (d d' : Doc) : Type 0 where
+  pub guid : d'.guid ≡ d.guid
+  pub drawn : d.drawn ≤ d'.drawn
+  pub most : d'.drawn ≤ last_number
+  pub added : d'.added ≡ d.added
+  pub commits : d'.commits ≡ d.commits
+
+-- is sound with sound parts, members and editors
+pub same-content : (d d' : Doc) → Sound d → SameContent d d' → AreSoundParts d d'.parts → AreSoundMembers d'.lock → AreSoundEditors d'.editors → Sound d'
+same-content d d' s c parts members editors = record {
+  drawn = c.most;
+  few_added = subst (λ (es : List Element). length es ≤ most_added) (sym c.added) s.few_added;
+  light_added = subst (λ (es : List Element). weight_of es ≤ most_added_weight) (sym c.added) s.light_added;
+  no_null = subst (λ (es : List Element). All (λ e. e.id ≢ Null) es) (sym c.added) s.no_null;
+  distinct_ids = subst (λ (es : List Element). IsDistinct same_id (map (λ e. e.id) es)) (sym c.added) s.distinct_ids;
+  added = subst (All (IsSoundElement d')) (sym c.added) (elements-later d d' c.guid c.drawn d.added s.added);
+  distinct_commits = subst (λ (cs : List Commit). IsDistinct same_id (map (λ x. x.index) cs)) (sym c.commits) s.distinct_commits;
+  commits = subst (All (IsSoundCommit d')) (sym c.commits) (commits-same d d' c.added d.commits s.commits);
+  parts = parts-later d d' c.guid c.drawn d'.parts parts;
+  members = members;
+  editors = editors;
+}
+
 module _ (doc : Doc) (s : Sound doc) where
   draw-sound : (count : ℕ) → Sound (draw doc count).doc
   draw-sound count =
       either (can_draw doc count) _ _
-      (λ h. record {
-        drawn = within doc.drawn count last_number h;
-        few_added = s.few_added;
-        light_added = s.light_added;
-        no_null = s.no_null;
-        distinct_ids = s.distinct_ids;
-        added = elements-later doc (record doc { drawn = doc.drawn + count }) refl (omega arith) doc.added s.added;
-        distinct_commits = s.distinct_commits;
-        commits = commits-same doc (record doc { drawn = doc.drawn + count }) refl doc.commits s.commits;
-        parts = parts-later doc (record doc { drawn = doc.drawn + count }) refl (omega arith) doc.parts s.parts;
-        members = s.members;
-        editors = s.editors;
-      })
+      (λ h. same-content doc (record doc { drawn = doc.drawn + count }) s
+      (record { guid = refl; drawn = omega arith; most = within doc.drawn count last_number h; added = refl; commits = refl }) s.parts s.members s.editors)
       s
+
+  -- another lock, and other parts
+  unmoved-content : (d' : Doc) → d'.guid ≡ doc.guid → d'.drawn ≡ doc.drawn → d'.added ≡ doc.added → d'.commits ≡ doc.commits → SameContent doc d'
+  unmoved-content d' g n a c = record { guid = g; drawn = omega (arith, n); most = omega (arith, n, s.drawn); added = a; commits = c }
+
+  pub with-lock : (lock : LockRecord) → AreSoundMembers lock → Sound (record doc { lock = lock })
+  with-lock lock m = same-content doc (record doc { lock = lock }) s (unmoved-content (record doc { lock = lock }) refl refl refl refl) s.parts m s.editors
 
   module _ (moment : ℕ) (user : List ℕ) (p : Put) (few : All (λ e. objects_written e ≤ most_objects) p.elements) where
     abbrev es : List Element
@@ -90,20 +114,10 @@ module _ (doc : Doc) (s : Sound doc) where
     after-part = (kept doc moment p).doc
 
     kept-sound : has_invalid doc.guid doc.drawn doc.added es ≡ false → too_many_parts (other_parts doc.parts moment p.index) es ≡ false → Sound after-part
-    kept-sound valid room = record {
-      drawn = s.drawn;
-      few_added = s.few_added;
-      light_added = s.light_added;
-      no_null = s.no_null;
-      distinct_ids = s.distinct_ids;
-      added = elements-later doc after-part refl (omega arith) doc.added s.added;
-      distinct_commits = s.distinct_commits;
-      commits = commits-same doc after-part refl doc.commits s.commits;
-      parts = parts-later doc after-part refl (omega arith) after-part.parts
-          (with-part doc doc.parts (record { index = p.index; elements = es; moment = moment }) moment s.parts (All-from_recursion (IsSoundElement doc) es (es-sound valid)) room);
-      members = s.members;
-      editors = s.editors;
-    }
+    kept-sound valid room =
+        same-content doc after-part s (unmoved-content after-part refl refl refl refl)
+        (with-part doc doc.parts (record { index = p.index; elements = es; moment = moment }) moment s.parts (All-from_recursion (IsSoundElement doc) es (es-sound valid)) room)
+        s.members s.editors
 
     -- a commit
     abbrev new : List Element
@@ -149,6 +163,7 @@ module _ (doc : Doc) (s : Sound doc) where
   kind-sound moment user (sub.Pull knowledge) v = s
   kind-sound moment user (sub.Put p) v = put-sound moment user p v.1
   kind-sound moment user (sub.Draw count) v = draw-sound count
+  kind-sound moment user (sub.Lock step) v = with-lock (do_lock doc moment step).doc.lock (lock-sound doc.lock moment step s.members)
 
 pub keeps-sound : KeepsSound
 keeps-sound doc call s v = kind-sound doc s call.moment call.user call.sub v.sub

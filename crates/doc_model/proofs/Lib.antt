@@ -13,6 +13,16 @@ pub mod KeepsSound
 pub mod SoundParts
 pub mod SoundCommits
 pub mod KeepsLock
+pub mod KeepsMembers
+pub mod UnderLock
 pub mod Following
 pub mod Rows
+pub mod AllFirst
+pub mod SizeBounds
+pub mod LastCommit
+pub mod SameIndex
+pub mod SoundLocks
+pub mod Reasons
 pub mod SameContents
+pub mod OtherLocks
+pub mod Timeouts

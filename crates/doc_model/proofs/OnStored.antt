@@ -1,5 +1,5 @@
 -- A put commits on the stored index alone, and commits with one index are one.
-use Rattle.std.proofs.Common.{◌≡◌, ◌≢◌, ◌⊎◌, ℕ, zero, suc, refl, sym, ap, Bool, true, false, not, ◌&&◌, ◌||◌, cond, List, [], ◌∷◌, length, Option, Some, None, ◌==◌, inl, inr, ⊎_elim, ◌∙◌, arith, map}
+use Rattle.std.proofs.Common.{◌≡◌, ◌≢◌, ℕ, zero, suc, refl, sym, ap, Bool, true, false, ◌&&◌, ◌||◌, cond, List, [], ◌∷◌, length, Option, Some, None, ◌==◌, inl, inr, ⊎_elim, ◌∙◌, arith, map}
 use Rattle.std.proofs.lemmas.Bool.Decides.{nat_tests}
 use Rattle.std.proofs.lemmas.Bool.{false≢true}
 use Rattle.std.specs.List.{IsDistinct, AllByRecursion, slice_get}
@@ -13,38 +13,8 @@ use Rattle.doc_model.specs.declared.reply.Code.{Code}
 use Rattle.doc_model.specs.Laws.{ExpectsStored, CommitsOnStored, OneCommitOfIndex}
 use Rattle.doc_model.specs.Pulls.{stored_index}
 use Rattle.doc_model.specs.Puts.{put, is_part, part_refusal, commit_refusal, kept, committed, is_expected, commit_reasons, sent_to, added_by}
-use Rattle.doc_model.specs.Turns.{Turn, first_refusal, unless}
-
--- none of the reasons holds
-abbrev pub NoneHolds : List (Bool × Code) → Type 0
-NoneHolds [] = Unit {0}
-NoneHolds (r ∷ rs) = (r.0 ≡ false) × NoneHolds rs
-
--- where nothing is refused, no reason holds
-pub none-holds : (rs : List (Bool × Code)) → first_refusal rs ≡ None → NoneHolds rs
-none-holds [] h = tt
-none-holds ((false, c) ∷ rs) h = (refl, none-holds rs h)
-none-holds ((true, c) ∷ rs) h = cc
-
-pub not-false : (b : Bool) → not b ≡ false → b ≡ true
-not-false true h = refl
-not-false false h = cc
-
-pub not-true : (b : Bool) → not b ≡ true → b ≡ false
-not-true false h = refl
-not-true true h = cc
-
-pub and-both : (a b : Bool) → (a && b) ≡ true → (a ≡ true) × (b ≡ true)
-and-both true b h = (refl, h)
-and-both false b h = cc
-
-pub or-either : (a b : Bool) → (a || b) ≡ true → (a ≡ true) ⊎ (b ≡ true)
-or-either true b h = inl refl
-or-either false b h = inr h
-
-pub or-neither : (a b : Bool) → (a || b) ≡ false → (a ≡ false) × (b ≡ false)
-or-neither true b h = cc
-or-neither false b h = (refl, h)
+use Rattle.doc_model.specs.Turns.{Turn, unless}
+use Rattle.doc_model.proofs.Reasons.{and-both, none-holds, not-false, or-either}
 
 no_commits : (cs : List Commit) → (length cs == 0) ≡ true → cs ≡ []
 no_commits [] h = refl

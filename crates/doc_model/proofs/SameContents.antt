@@ -1,25 +1,14 @@
 -- Elements that the tests call equal are equal, and each is equal to itself.
-use Rattle.std.proofs.Common.{◌≡◌, ℕ, refl, sym, ◌∙◌, ap, subst, Bool, true, false, ◌&&◌, List, [], ◌∷◌, nat_eq, arith}
-use Rattle.std.specs.Prelude.{bytes_eq, IsTrue, ◌↔◌, not}
+use Rattle.std.proofs.Common.{◌≡◌, refl, sym, ◌∙◌, ap, subst, Bool, true, false, ◌&&◌, List, [], ◌∷◌, nat_eq}
+use Rattle.std.specs.Prelude.{bytes_eq, IsTrue, ◌↔◌}
 use Rattle.std.specs.Cmp.Lexicographic.{pointwise}
-use Rattle.std.proofs.lemmas.Bool.Decides.{nat_tests}
-use Rattle.std.proofs.lemmas.Bool.{false≢true}
 use Rattle.std.specs.Bool.{one_answer}
-use Rattle.compact_values.specs.declared.guid.Guid.{Guid}
-use Rattle.compact_values.specs.declared.ids.ExGuid.{ExGuid}
 use Rattle.compact_values.specs.declared.ids.Serial.{Serial}
 use Rattle.compact_values.specs.declared.ids.Serial.TheVariants as serial
-use Rattle.compact_values.specs.declared.ids.CellId.{CellId}
 use Rattle.compact_values.specs.SameIds.{same_guid, same_id, same_serial, same_cell}
 use Rattle.compact_values.proofs.SameIds.{both, number, reflexive, guid-same, id-same, cell-same, same-guid, same-id, same-cell}
 use Rattle.doc_model.specs.declared.element.Body.{Body}
 use Rattle.doc_model.specs.declared.element.Body.TheVariants.{Index, Storage, Cell, Revision, Group, Blob}
-use Rattle.doc_model.specs.declared.element.ManifestMap.{ManifestMap}
-use Rattle.doc_model.specs.declared.element.CellMap.{CellMap}
-use Rattle.doc_model.specs.declared.element.RevisionMap.{RevisionMap}
-use Rattle.doc_model.specs.declared.element.Root.{Root}
-use Rattle.doc_model.specs.declared.element.RevisionRoot.{RevisionRoot}
-use Rattle.doc_model.specs.declared.element.Object.{Object}
 use Rattle.doc_model.specs.declared.element.Content.{Content}
 use Rattle.doc_model.specs.declared.element.Content.TheVariants.{Inline, Apart}
 use Rattle.doc_model.specs.Contents.{same_manifest_map, same_cell_map, same_revision_map, same_root, same_revision_root, same_content, same_object, same_body}

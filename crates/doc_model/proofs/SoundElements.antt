@@ -1,6 +1,5 @@
 -- What a put adds is sound: each of its ids is new, drawn and not null, and each is written in few objects.
-use Rattle.std.proofs.Common.{◌≡◌, ◌≢◌, ℕ, ◌≤◌, refl, sym, ◌∙◌, ap, Bool, true, false, ◌&&◌, ◌||◌, List, ◌++◌, map, nat_lt, arith}
-use Rattle.std.proofs.lemmas.Bool.Decides.{nat_tests}
+use Rattle.std.proofs.Common.{◌≡◌, ◌≢◌, ◌≤◌, refl, sym, ◌∙◌, ap, Bool, true, false, ◌&&◌, List, ◌++◌, map, nat_lt, arith}
 use Rattle.std.proofs.lemmas.Bool.{false≢true}
 use Rattle.std.specs.List.{AllByRecursion as Each, IsDistinct, list_any}
 use Rattle.compact_values.specs.declared.guid.Guid.{Guid}
@@ -17,10 +16,7 @@ use Rattle.doc_model.specs.Sound.{IsDrawn, IsSoundElement}
 use Rattle.doc_model.specs.Weights.{objects_written}
 use Rattle.doc_model.proofs.Distinct.{distinct-filter, distinct-firsts, distinct-more, each-firsts}
 use Rattle.doc_model.proofs.EachItem.{each-as, each-both, each-filter, each-passes, none-each}
-use Rattle.doc_model.proofs.OnStored.{or-neither, not-true}
-
-pub not-less : (a b : ℕ) → nat_lt a b ≡ false → b ≤ a
-not-less a b h = grind (arith, nat_tests)
+use Rattle.doc_model.proofs.Reasons.{not-less, not-true, or-neither}
 
 -- the test of ids doesn't tell which of the two is first
 same-id-flips : (a b : ExGuid) → same_id a b ≡ same_id b a

@@ -16,11 +16,11 @@ use Rattle.doc_model.specs.Sound.{IsSoundElement, IsSoundPart, AreSoundParts, pa
 use Rattle.doc_model.specs.Weights.{objects_written, weight_of}
 use Rattle.doc_model.proofs.Distinct.{distinct-filter, distinct-push}
 use Rattle.doc_model.proofs.EachItem.{each-as, each-append, each-found, each-passes}
-use Rattle.doc_model.proofs.OnStored.{and-both, not-true, or-neither}
-use Rattle.doc_model.proofs.SoundElements.{element-later, not-less}
+use Rattle.doc_model.proofs.SoundElements.{element-later}
+use Rattle.doc_model.proofs.Reasons.{and-both, not-less, not-true, or-neither}
 
 -- a test keeps no more items, and no more weight
-length-filter : {X : Type 0} (p : X → Bool) (xs : List X) → length (filter p xs) ≤ length xs
+pub length-filter : {X : Type 0} (p : X → Bool) (xs : List X) → length (filter p xs) ≤ length xs
 length-filter p [] = omega arith
 length-filter p (x ∷ xs) = at (p x) (length-filter p xs)
   where
@@ -28,7 +28,7 @@ length-filter p (x ∷ xs) = at (p x) (length-filter p xs)
     at true r = omega (arith, r)
     at false r = omega (arith, r)
 
-sum-filter : {X : Type 0} (f : X → ℕ) (p : X → Bool) (xs : List X) → sum_by f (filter p xs) ≤ sum_by f xs
+pub sum-filter : {X : Type 0} (f : X → ℕ) (p : X → Bool) (xs : List X) → sum_by f (filter p xs) ≤ sum_by f xs
 sum-filter f p [] = omega arith
 sum-filter f p (x ∷ xs) = at (p x) (sum-filter f p xs)
   where

@@ -3,12 +3,13 @@ use Rattle.std.specs.Prelude.{◌≡◌, ℕ, List, [], fold, Option, Some}
 use Rattle.compact_values.specs.declared.guid.Guid.{Guid}
 use Rattle.doc_model.specs.declared.call.Call.{Call}
 use Rattle.doc_model.specs.declared.call.Sub.{Sub}
-use Rattle.doc_model.specs.declared.call.Sub.TheVariants.{Access, Pull, Put, Draw}
+use Rattle.doc_model.specs.declared.call.Sub.TheVariants.{Access, Pull, Put, Draw, Lock}
 use Rattle.doc_model.specs.declared.core_trait.Plan.{Plan}
 use Rattle.doc_model.specs.declared.doc.Doc.{Doc}
 use Rattle.doc_model.specs.declared.lock.LockRecord.TheVariants.{Free}
 use Rattle.doc_model.specs.declared.reply.Reply.TheVariants as reply
 use Rattle.doc_model.specs.Drawing.{draw}
+use Rattle.doc_model.specs.Locking.{do_lock}
 use Rattle.doc_model.specs.Pulls.{pull}
 use Rattle.doc_model.specs.Puts.{put}
 use Rattle.doc_model.specs.Turns.{Turn, reading}
@@ -23,6 +24,7 @@ by_kind doc moment user Access = reading doc reply.Access
 by_kind doc moment user (Pull knowledge) = reading doc (pull doc knowledge.ranges)
 by_kind doc moment user (Put p) = put doc moment user p
 by_kind doc moment user (Draw count) = draw doc count
+by_kind doc moment user (Lock step) = do_lock doc moment step
 
 abbrev pub apply : Doc → Call → Turn
 apply doc call = by_kind doc call.moment call.user call.sub

@@ -1,21 +1,22 @@
 -- What holds of every document and every call.
-use Rattle.std.specs.Prelude.{◌≡◌, ◌≢◌, ◌⊎◌, ℕ, true, false, IsTrue, List, [], ◌++◌, map, Some}
+use Rattle.std.specs.Prelude.{◌≡◌, ◌≢◌, ◌⊎◌, ℕ, true, false, IsTrue, List, [], ◌++◌, map, Some, None, is_some}
+use Rattle.std.specs.List.{All, list_all, slice_get}
+use Rattle.compact_values.specs.declared.guid.Guid.{Guid}
+use Rattle.compact_values.specs.declared.ids.ExGuid.{ExGuid}
+use Rattle.compact_values.specs.declared.ids.ExGuid.TheVariants.{Null}
 use Rattle.doc_model.specs.declared.call.Call.{Call}
 use Rattle.doc_model.specs.declared.call.Put.{Put}
 use Rattle.doc_model.specs.declared.doc.Doc.{Doc}
 use Rattle.doc_model.specs.declared.doc.Commit.{Commit}
-use Rattle.compact_values.specs.declared.guid.Guid.{Guid}
-use Rattle.compact_values.specs.declared.ids.ExGuid.{ExGuid}
-use Rattle.compact_values.specs.declared.ids.ExGuid.TheVariants.{Null}
-use Rattle.std.specs.List.{All, list_all, slice_get}
 use Rattle.doc_model.specs.declared.element.Element.{Element}
-use Rattle.doc_model.specs.Files.{file}
-use Rattle.doc_model.specs.Reached.{names}
-use Rattle.doc_model.specs.Apply.{apply, empty_doc, replay}
-use Rattle.doc_model.specs.Pulls.{stored_index, pull}
 use Rattle.doc_model.specs.declared.reply.Reply.{Reply}
 use Rattle.doc_model.specs.declared.reply.Reply.TheVariants.{Pulled}
+use Rattle.doc_model.specs.Apply.{apply, empty_doc, replay}
+use Rattle.doc_model.specs.Files.{file, root_chain}
+use Rattle.doc_model.specs.Finding.{find_element}
+use Rattle.doc_model.specs.Pulls.{stored_index, pull}
 use Rattle.doc_model.specs.Puts.{put}
+use Rattle.doc_model.specs.Reached.{names, reached}
 use Rattle.doc_model.specs.Sound.{Sound, Valid}
 
 -- A call that doesn't move leaves the document equal.
@@ -37,12 +38,28 @@ abbrev pub OneCommitOfIndex : Type 0
 OneCommitOfIndex =
     (doc : Doc) (i j : ℕ) (a b : Commit) → Sound doc → slice_get doc.commits i ≡ Some a → slice_get doc.commits j ≡ Some b → a.index ≡ b.index → i ≡ j
 
+-- Where the stored index is the same as it was, nothing was committed in between.
+abbrev pub EqualIndexEqualCommits : Type 0
+EqualIndexEqualCommits =
+    (doc : Doc) (calls : List (ℕ × Call)) → Sound doc → All (λ item. Valid item.1) calls
+    → stored_index (replay doc calls).commits ≡ stored_index doc.commits → (replay doc calls).commits ≡ doc.commits
+
 -- Where all that an index names is there, elements that are added later change nothing of it.
 abbrev pub AllNamed : List Element → ExGuid → Type 0
 AllNamed added index = IsTrue (list_all (λ n. n.found) (names added index))
 
 abbrev pub NamesStay : Type 0
 NamesStay = (added more : List Element) (index : ExGuid) → AllNamed added index → names (added ++ more) index ≡ names added index
+
+-- elements whose ids are new
+abbrev pub AreNew : List Element → List Element → Type 0
+AreNew added more = All (λ e. find_element added e.id ≡ None) more
+
+abbrev pub ReachedStays : Type 0
+ReachedStays = (added more : List Element) (index : ExGuid) → AllNamed added index → AreNew added more → reached (added ++ more) index ≡ reached added index
+
+abbrev pub ChainStays : Type 0
+ChainStays = (added more : List Element) (index : ExGuid) → AllNamed added index → root_chain (added ++ more) index ≡ root_chain added index
 
 abbrev pub FileStays : Type 0
 FileStays = (added more : List Element) (index : ExGuid) → AllNamed added index → file (added ++ more) index ≡ file added index
@@ -61,6 +78,12 @@ abbrev pub DownloadsTheFile : Type 0
 DownloadsTheFile =
     (doc : Doc) → doc.commits ≢ []
     → file (pulled_elements (pull doc [])) (pulled_index (pull doc [])) ≡ file doc.added (pulled_index (pull doc []))
+
+-- It is all that is reached from that index, and the file is there.
+abbrev pub DownloadsWhatIsReached : Type 0
+DownloadsWhatIsReached =
+    (doc : Doc) → Sound doc → doc.commits ≢ []
+    → (reached doc.added (pulled_index (pull doc [])) ≡ Some (pulled_elements (pull doc []))) × IsTrue (is_some (file doc.added (pulled_index (pull doc []))))
 
 -- Without a commit the answered index is null, and no element is sent.
 abbrev pub DownloadsNothing : Type 0

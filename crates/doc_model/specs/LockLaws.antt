@@ -1,5 +1,5 @@
 -- What a live lock is after a call, and which calls it lets change the versions of a document.
-use Rattle.std.specs.Prelude.{◌≡◌, ◌≢◌, ◌⊎◌, ℕ, List, Option, Some}
+use Rattle.std.specs.Prelude.{◌≡◌, ◌≢◌, ◌⊎◌, ℕ, List, Some}
 use Rattle.std.specs.List.{All, Any}
 use Rattle.compact_values.specs.declared.guid.Guid.{Guid}
 use Rattle.doc_model.specs.declared.call.Call.{Call}
@@ -12,7 +12,6 @@ use Rattle.doc_model.specs.declared.lock.LockStep.{LockStep}
 use Rattle.doc_model.specs.declared.lock.LockStep.TheVariants.{TakeExclusive, DropExclusive, RefreshExclusive, ToShared, TakeShared, DropShared, RefreshShared, ToExclusive}
 use Rattle.doc_model.specs.declared.lock.Member.{Member}
 use Rattle.doc_model.specs.Apply.{apply}
-use Rattle.doc_model.specs.Locking.{do_lock}
 use Rattle.doc_model.specs.Locks.{live}
 
 -- the step ends the exclusive lock of this id, or sets its end
@@ -50,17 +49,22 @@ abbrev pub StaysMember : Guid → Member → Type 0 → LockRecord → Type 0
 StaysMember schema x IsSet (Shared held members) = (held ≡ schema) × Any (IsStill x IsSet) members
 StaysMember schema x IsSet _ = ⊥
 
--- A step leaves a live exclusive lock, but for its holder's own drop and conversion.
-abbrev pub StepKeepsExclusive : Type 0
-StepKeepsExclusive =
-    (doc : Doc) (moment : ℕ) (step : LockStep) (id : Guid) (until : ℕ) → live doc.lock moment ≡ Exclusive id until
-    → EndsExclusive id step ⊎ StaysExclusive id until (SetsExclusive id step) (do_lock doc moment step).doc.lock
+-- what a lock step says of the call that it is
+abbrev pub ByStep : Sub → (LockStep → Type 0) → Type 0
+ByStep (sub.Lock step) Says = Says step
+ByStep _ Says = ⊥
 
--- A step leaves each live member of a shared lock, but for the member's own drop and conversion.
-abbrev pub StepKeepsMembers : Type 0
-StepKeepsMembers =
-    (doc : Doc) (moment : ℕ) (step : LockStep) (schema : Guid) (members : List Member) → live doc.lock moment ≡ Shared schema members
-    → All (λ x. EndsMember schema x.client step ⊎ StaysMember schema x (SetsMember schema x.client step) (do_lock doc moment step).doc.lock) members
+-- A call leaves a live exclusive lock, but for its holder's own drop and conversion.
+abbrev pub KeepsExclusive : Type 0
+KeepsExclusive =
+    (doc : Doc) (call : Call) (id : Guid) (until : ℕ) → live doc.lock call.moment ≡ Exclusive id until
+    → ByStep call.sub (EndsExclusive id) ⊎ StaysExclusive id until (ByStep call.sub (SetsExclusive id)) (apply doc call).doc.lock
+
+-- A call leaves each live member of a shared lock, but for the member's own drop and conversion.
+abbrev pub KeepsMembers : Type 0
+KeepsMembers =
+    (doc : Doc) (call : Call) (schema : Guid) (members : List Member) → live doc.lock call.moment ≡ Shared schema members
+    → All (λ x. ByStep call.sub (EndsMember schema x.client) ⊎ StaysMember schema x (ByStep call.sub (SetsMember schema x.client)) (apply doc call).doc.lock) members
 
 -- a call carries this lock id
 abbrev pub Carries : Sub → Guid → Type 0

@@ -16,6 +16,7 @@ use Rattle.doc_model.specs.declared.reply.Reply.{Reply}
 use Rattle.doc_model.specs.declared.reply.Reply.TheVariants as reply
 use Rattle.doc_model.specs.declared.reply.Code.{Code}
 use Rattle.doc_model.specs.declared.reply.Code.TheVariants as code
+use Rattle.doc_model.specs.Limits.{most_sharing}
 use Rattle.doc_model.specs.Locks.{shared_by}
 
 -- the steps of a shared lock; the others are those of an exclusive one
@@ -81,7 +82,7 @@ with_client client until coauthor (x ∷ xs) =
 abbrev pub take_shared : Guid → Guid → ℕ → Bool → LockRecord → LockTurn
 take_shared schema client until coauthor lock =
     on_shared schema lock (becomes (Shared schema (member client until coauthor ∷ []))) (λ members.
-    if nat_lt (length (others client members)) 64 then becomes (Shared schema (with_client client until coauthor members))
+    if nat_lt (length (others client members)) most_sharing then becomes (Shared schema (with_client client until coauthor members))
     else refuses code.TooManyCoauthors)
 
 abbrev pub to_exclusive : Guid → Guid → Guid → ℕ → Bool → LockRecord → LockTurn

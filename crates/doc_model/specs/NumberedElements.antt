@@ -1,5 +1,5 @@
 -- The data elements of a response: each has a serial number (MS-FSSHTTPB 2.2.1.12).
-use Rattle.std.specs.Prelude.{ℕ, List, [], ◌∷◌}
+use Rattle.std.specs.Prelude.{ℕ, List}
 use Rattle.compact_values.specs.declared.guid.Guid.{Guid}
 use Rattle.compact_values.specs.declared.ids.ExGuid.{ExGuid}
 use Rattle.compact_values.specs.declared.ids.Serial.TheVariants.{Number}

@@ -1,12 +1,12 @@
 -- What holds of every document that a host keeps, and of every call that may be made.
-use Rattle.std.specs.Prelude.{◌≡◌, ◌≢◌, ℕ, ◌<◌, ◌≤◌, ◌^◌, List, length, map, Some, bytes_eq}
+use Rattle.std.specs.Prelude.{◌≡◌, ◌≢◌, ℕ, ◌<◌, ◌≤◌, ◌^◌, List, length, map, Some, IfSome, bytes_eq}
 use Rattle.std.specs.List.{All, sum_by, IsDistinct}
 use Rattle.compact_values.specs.declared.ids.ExGuid.{ExGuid}
 use Rattle.compact_values.specs.declared.ids.ExGuid.TheVariants.{Null, Id}
 use Rattle.compact_values.specs.SameIds.{same_guid, same_id}
 use Rattle.doc_model.specs.declared.call.Call.{Call}
 use Rattle.doc_model.specs.declared.call.Sub.{Sub}
-use Rattle.doc_model.specs.declared.call.Sub.TheVariants.{Put}
+use Rattle.doc_model.specs.declared.call.Sub.TheVariants.{Put, Lock}
 use Rattle.doc_model.specs.declared.doc.Doc.{Doc}
 use Rattle.doc_model.specs.declared.doc.Commit.{Commit}
 use Rattle.doc_model.specs.declared.doc.Part.{Part}
@@ -16,7 +16,8 @@ use Rattle.doc_model.specs.declared.lock.LockRecord.{LockRecord}
 use Rattle.doc_model.specs.declared.lock.LockRecord.TheVariants.{Free, Exclusive, Shared}
 use Rattle.doc_model.specs.Drawing.{last_number}
 use Rattle.doc_model.specs.Files.{file}
-use Rattle.doc_model.specs.Limits.{most_added, most_added_weight, most_parts, most_parts_weight, most_sharing, most_editors, most_elements, most_keys, most_objects, most_file, most_reached_weight}
+use Rattle.doc_model.specs.Limits.{day, most_added, most_added_weight, most_parts, most_parts_weight, most_sharing, most_editors, most_elements, most_keys, most_objects, most_file, most_reached_weight}
+use Rattle.doc_model.specs.LockSteps.{timeout_of}
 use Rattle.doc_model.specs.Reached.{reached}
 use Rattle.doc_model.specs.Weights.{objects_written, weight_of}
 
@@ -77,9 +78,14 @@ pub record Sound (doc : Doc) : Type 0 where
   pub members : AreSoundMembers doc.lock
   pub editors : AreSoundEditors doc.editors
 
--- what is put is one package of elements, each written in few enough stream objects to be read again
+-- what is asked for lasts a minute to a day
+abbrev pub IsValidTimeout : ℕ → Type 0
+IsValidTimeout t = (60 ≤ t) × (t ≤ day)
+
+-- what is put is one package of elements, each written in few enough stream objects to be read again; a timeout is valid
 abbrev pub IsValidSub : Sub → Type 0
 IsValidSub (Put p) = (length p.elements ≤ most_elements) × All (λ e. objects_written e ≤ most_objects) p.elements
+IsValidSub (Lock step) = IfSome (timeout_of step) IsValidTimeout
 IsValidSub _ = Unit {0}
 
 -- A call that may be made.

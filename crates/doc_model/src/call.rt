@@ -1,5 +1,6 @@
 use crate::element::Elements;
 use crate::knowledge::Knowledge;
+use crate::lock::LockStep;
 use compact_values::{ExGuid, Guid, Text};
 
 /// An upload (Put Changes, MS-FSSHTTPB 2.2.2.1.4): the storage index to commit, the one that it was made from, and the
@@ -36,4 +37,6 @@ pub enum Sub {
     Put { put: Put },
     /// Allocate Extended GUID Range: so many numbers.
     Draw { count: u64 },
+    /// A step of the document's lock (MS-FSSHTTP 3.1.4.3 to 3.1.4.5).
+    Lock { step: LockStep },
 }

@@ -1,27 +1,39 @@
 //! Laws of the definitions: each function's contract is one, and it does nothing.
-ghost use Rattle.doc_model.specs.Laws.{UnmovedIsEqual, CommitsOnStored, OneCommitOfIndex, NamesStay, FileStays, DownloadsTheFile, DownloadsNothing, KeepsSound, EmptyIsSound, CallsFollow, HistoriesFollow};
+ghost use Rattle.doc_model.specs.Laws.{UnmovedIsEqual, CommitsOnStored, OneCommitOfIndex, EqualIndexEqualCommits, NamesStay, ReachedStays, ChainStays, FileStays, DownloadsTheFile, DownloadsWhatIsReached, DownloadsNothing, KeepsSound, EmptyIsSound, CallsFollow, HistoriesFollow};
+ghost use Rattle.doc_model.specs.LockLaws.{CommitsUnderLock};
 
 /// A call that doesn't move leaves the document equal.
 pub fn unmoved_leaves_the_document()
     ensures { UnmovedIsEqual }
 {}
 
-/// A put that doesn't win as the last writer commits on the stored index alone, and an index is that of one commit.
+/// A put that doesn't win as the last writer commits on the stored index alone. An index is that of one commit, so where
+/// the stored index is the same as it was, nothing was committed in between.
 pub fn commits_on_the_stored_index()
     ensures expected { CommitsOnStored }
     ensures one { OneCommitOfIndex }
+    ensures same { EqualIndexEqualCommits }
 {}
 
-/// Elements that are added later change neither what an index names nor its file, where all that it names is there.
+/// Where the versions change, no live lock was there, or the call carried its id.
+pub fn commits_under_the_lock()
+    ensures { CommitsUnderLock }
+{}
+
+/// Elements that are added later change neither what an index names nor its chain of revisions nor its file, where all
+/// that it names is there; and where their ids are new, they change nothing of what is reached.
 pub fn later_elements_change_nothing()
     ensures names { NamesStay }
+    ensures reached { ReachedStays }
+    ensures chain { ChainStays }
     ensures file { FileStays }
 {}
 
-/// What a client that knows nothing is sent has, alone, the file that the document has at the answered index; without a
-/// commit it is sent nothing.
+/// What a client that knows nothing is sent has, alone, the file that the document has at the answered index: it is all
+/// that is reached from there. Without a commit it is sent nothing.
 pub fn downloads_the_file()
     ensures file { DownloadsTheFile }
+    ensures reached { DownloadsWhatIsReached }
     ensures nothing { DownloadsNothing }
 {}
 

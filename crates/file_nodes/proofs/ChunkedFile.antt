@@ -22,17 +22,17 @@ use Rattle.file_nodes.proofs.FileLaw.{root_file-file_objects}
 
 -- ---- what the elements say
 
-abbrev mappings : Guid → ℕ → Mappings
+abbrev pub mappings : Guid → ℕ → Mappings
 mappings guid first = record {
   manifests = record { target = id_of guid (first + 1); serial = serials.Null } ∷ [];
   cells = record { cell = root_cell; target = id_of guid (first + 2); serial = serials.Null } ∷ [];
   revisions = record { revision = id_of guid (first + 5); target = id_of guid (first + 3); serial = serials.Null } ∷ [];
 }
 
-abbrev roots : List Root
+abbrev pub roots : List Root
 roots = record { root = storage_root; cell = root_cell } ∷ []
 
-abbrev manifest : Guid → ℕ → Manifest
+abbrev pub manifest : Guid → ℕ → Manifest
 manifest guid first = record {
   base = exguids.Null;
   roots = record { root = revision_root; object = id_of guid (first + 6) } ∷ [];
@@ -40,14 +40,14 @@ manifest guid first = record {
 }
 
 module _ (objects : List Object) (guid : Guid) (first : ℕ) where
-  consecutive : map (λ e. e.id) (elements_round objects guid first) ≡ map (id_of guid) (range_with_len first 5)
+  pub consecutive : map (λ e. e.id) (elements_round objects guid first) ≡ map (id_of guid) (range_with_len first 5)
   consecutive =
       let two : first + 1 + 1 ≡ first + 2 = omega arith in
       let three : first + 2 + 1 ≡ first + 3 = omega arith in
       let four : first + 3 + 1 ≡ first + 4 = omega arith in
       rw (two, three, four)
 
-  said-at : {X : Type 0} (as_kind : Body → Option X) (k w : ℕ) → w ≡ first + k
+  pub said-at : {X : Type 0} (as_kind : Body → Option X) (k w : ℕ) → w ≡ first + k
       → said as_kind (elements_round objects guid first) (id_of guid w) ≡ option_and_then (λ e. as_kind e.body) (slice_get (elements_round objects guid first) k)
   said-at {X} as_kind k w e =
       ap (option_and_then (λ (x : Element). as_kind x.body)) (find-consecutive (λ (x : Element). x.id) guid first w k (elements_round objects guid first) consecutive e)
@@ -63,7 +63,7 @@ module _ (added : List Element) (objects : List Object) (guid : Guid) (first : �
   current_is : current_revision added (mappings guid first) ≡ Some (id_of guid (first + 5))
   current_is = rw (storage, cell)
 
-  chain_is : chain added (mappings guid first).revisions longest (id_of guid (first + 5)) ≡ Some (manifest guid first ∷ [])
+  pub chain_is : chain added (mappings guid first).revisions longest (id_of guid (first + 5)) ≡ Some (manifest guid first ∷ [])
   unfolding chain
   chain_is = rw (same-id (id_of guid (first + 5)), revision)
 

@@ -29,7 +29,7 @@ length-digest_bytes h (suc n) =
     let word : length (to_be_bytes w32 (get_or h n 0)) ≡ 4 = refl in
     omega (arith, length-append (digest_bytes h n) (to_be_bytes w32 (get_or h n 0)), length-digest_bytes h n)
 
-length-sha256 : (m : List ℕ) → length (sha256 m) ≡ 32
+pub length-sha256 : (m : List ℕ) → length (sha256 m) ≡ 32
 unfolding sha256
 length-sha256 m = length-digest_bytes (final_hash initial_hash_256 m) 8
 

@@ -13,3 +13,5 @@ pub mod FindLaws
 pub mod FileLaw
 pub mod ChunkedFile
 pub mod References
+pub mod ChunkWeight
+pub mod AcceptedFile

@@ -11,7 +11,7 @@ use Rattle.file_nodes.proofs.PieceLaws.{length-pieces}
 use Rattle.file_nodes.proofs.PartLaws.{length-numbered}
 
 -- no piece is longer than it may be
-pieces_are_short : {X : Type 0} (a n : ℕ) (xs : List X) → AllByRecursion (λ p. length p ≤ n) (pieces_within a n xs)
+pub pieces_are_short : {X : Type 0} (a n : ℕ) (xs : List X) → AllByRecursion (λ p. length p ≤ n) (pieces_within a n xs)
 unfolding pieces_within
 pieces_are_short {X} zero n xs = tt
 pieces_are_short {X} (suc a) n [] = tt
@@ -33,7 +33,7 @@ few-nodes guid v [] f = tt
 few-nodes guid v (g ∷ groups) f = (omega (arith, f.0, length-map g (λ (p : Part). p.object.id)), few-nodes guid (v + 1) groups f.1)
 
 -- a level's count is enough to come to a level of at most 64 parts
-few-top : (count : ℕ) (guid : Guid) (v : ℕ) (level : List Part) → length level ≤ count → length (levels_within count guid v level).top ≤ 64
+pub few-top : (count : ℕ) (guid : Guid) (v : ℕ) (level : List Part) → length level ≤ count → length (levels_within count guid v level).top ≤ 64
 unfolding levels_within
 few-top zero guid v level f = omega arith
 few-top (suc count) guid v level f = elim (cases_lt 64 (length level)) [

@@ -5,3 +5,4 @@ pub mod FileAnswers
 pub mod Pieces
 pub mod Chunking
 pub mod Chunks
+pub mod ChunkLaws

@@ -7,6 +7,7 @@ ghost use Rattle.compact_values.specs.declared.guid.Guid.{Guid};
 ghost use Rattle.compact_values.specs.declared.ids.ExGuid.{ExGuid};
 ghost use Rattle.doc_model.specs.FileObjects.{root_file};
 ghost use Rattle.doc_model.specs.Files.{file};
+ghost use Rattle.file_nodes.specs.ChunkLaws.{CutFileIsStored};
 ghost use Rattle.file_nodes.specs.Chunking.{file_objects};
 ghost use Rattle.file_nodes.specs.Chunks.{chunked};
 ghost use Rattle.file_nodes.specs.FileAnswers.{Agrees};
@@ -26,4 +27,9 @@ pub fn file_of_a_cut_file()
 /// No object of a file that is cut has more than 64 references, however long the file is.
 pub fn at_most_64_references()
     ensures { (bytes : List ℕ) (guid : Guid) (value : ℕ) → AllByRecursion (λ o. length o.references ≤ 64) (file_objects bytes guid value) }
+{}
+
+/// A file of at most 16 MiB that is cut is accepted as the first put of a document, whose file it then is.
+pub fn a_cut_file_is_accepted()
+    ensures { CutFileIsStored }
 {}

@@ -139,6 +139,7 @@ impl Core for PlainCore {
             Sub::Pull { knowledge } => self.plan_pull(knowledge.ranges.as_slice()),
             Sub::Put { .. } => Err(NoMemory),
             Sub::Draw { count } => Ok(self.plan_draw(*count)),
+            Sub::Lock { .. } => Err(NoMemory),
         }
     }
 

@@ -1,7 +1,9 @@
-mod WalkFinds
-mod WalkLaws
-mod ReaderAnswers
-mod Splits
-mod SubLaws
-mod RequestLaws
-mod OneAnswer
+pub mod WalkFinds
+pub mod WalkLaws
+pub mod WalkReaches
+pub mod ReaderAnswers
+pub mod Splits
+pub mod SubLaws
+pub mod RequestLaws
+pub mod OneAnswer
+pub mod RequestStands

@@ -1,5 +1,6 @@
 -- Bytes have one answer, where memory doesn't run out.
-use Rattle.std.proofs.Common.{◌≡◌, ◌≢◌, ◌⊎◌, ℕ, ◌<◌, ◌≤◌, List, length, Option, Some, None, Result, Ok, Err, inl, inr, refl, sym, ap, subst, arith}
+use Rattle.std.proofs.Common.{◌≡◌, ◌≢◌, ◌⊎◌, ℕ, ◌<◌, ◌≤◌, zero, suc, List, [], ◌∷◌, length, Option, Some, None, Result, Ok, Err, inl, inr, refl, sym, ap, subst, arith}
+use Rattle.std.specs.List.{AllByRecursion}
 use Rattle.compact_values.proofs.LittleEndian.{IsBytes}
 use Rattle.compact_values.proofs.Takes.{some_pair}
 use Rattle.stream_objects.specs.declared.tree.Tree.{Tree}
@@ -15,8 +16,8 @@ use Rattle.doc_model.specs.Fronts.{HasVersions, HasSignature}
 use Rattle.doc_model.specs.Requests.{SaysRequest, IsRequest}
 use Rattle.doc_model.specs.RequestParts.{InOwnForm, part_start, request_parts}
 use Rattle.doc_model.specs.declared.request.CellRequest.{CellRequest}
-use Rattle.wire_requests.specs.declared.fault.WireFault.{WireFault}
-use Rattle.wire_requests.specs.declared.fault.WireFault.TheVariants as faults
+use Rattle.data_elements.specs.declared.wire_fault.WireFault.{WireFault}
+use Rattle.data_elements.specs.declared.wire_fault.WireFault.TheVariants as faults
 use Rattle.wire_requests.specs.RequestReading.{request_at}
 use Rattle.wire_requests.specs.RequestAnswers.{IsFramed, IsAnswer, IsOnlyAnswer, GivesRequest}
 use Rattle.wire_requests.proofs.RequestLaws.{judges_request, again_request}
@@ -192,3 +193,18 @@ module _ (bytes : List ℕ) (fits : IsBytes bytes) where
   -- bytes are at most one request
   pub one_request : (x y : CellRequest) → IsRequest bytes x → IsRequest bytes y → x ≡ y
   one_request x y p q = both_say p.tree q.tree (framed x p) (framed y q) x y p.form q.form
+
+pub all_bytes : (bytes : List ℕ) → AllByRecursion (λ b. b < 256) bytes → IsBytes bytes
+all_bytes [] h i = omega arith
+all_bytes (b ∷ bytes) h zero = h.0
+all_bytes (b ∷ bytes) h (suc i) = all_bytes bytes h.1 i
+
+-- Where a fault other than want of memory is the only answer, the bytes are no request.
+pub no_request : (bytes : List ℕ) (fault : WireFault) → IsOnlyAnswer bytes (Err fault) → fault ≢ faults.NoMemory → (r : CellRequest) → IsRequest bytes r → ⊥
+no_request bytes fault only some r request = go (only (Ok r) request (λ e. absurd cc)) where
+  failed : WireFault → Result CellRequest WireFault
+  failed f = Err f
+
+  go : (failed fault ≡ failed faults.NoMemory) ⊎ (failed fault ≡ Ok r) → ⊥
+  go (inl e) = some cc
+  go (inr e) = cc

@@ -144,10 +144,10 @@ module _ (input : List ℕ) (fits : IsBytes input) where
     with_sub : (t : Tree) (ts : List Tree) (subs all : List WireSub) (s : WireSub) → is_kind 0x42 t ≡ true → SubBehind input fits (length subs) (puts_in subs) t s → Behind ts (subs ++ s ∷ []) all → Behind (t ∷ ts) subs all
     with_sub t ts subs all s y h b =
         let more : puts_in subs ≤ 4 → puts_in (subs ++ s ∷ []) ≤ 4 = λ le.
-            elim (cases_Bool (is_put s.what)) [
-              | inl p ↦ omega (arith, h.few_puts p, puts_append subs (s ∷ []), one_put s p)
-              | inr p ↦ omega (arith, le, puts_append subs (s ∷ []), no_put s p)
-            ] in
+        elim (cases_Bool (is_put s.what)) [
+          | inl p ↦ omega (arith, h.few_puts p, puts_append subs (s ∷ []), one_put s p)
+          | inr p ↦ omega (arith, le, puts_append subs (s ∷ []), no_put s p)
+        ] in
         record {
           new = s ∷ b.new;
           all_are = b.all_are ∙ append_assoc subs (s ∷ []) b.new;

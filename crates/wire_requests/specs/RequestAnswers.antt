@@ -12,8 +12,8 @@ use Rattle.doc_model.specs.declared.element.Element.{Element}
 use Rattle.doc_model.specs.declared.request.CellRequest.{CellRequest}
 use Rattle.data_elements.specs.declared.fault.ElementFault.{ElementFault}
 use Rattle.data_elements.specs.declared.fault.ElementFault.TheVariants as elements
-use Rattle.wire_requests.specs.declared.fault.WireFault.{WireFault}
-use Rattle.wire_requests.specs.declared.fault.WireFault.TheVariants.{BadFront, BadSignature, TreeFault, Extra, SchemaFault, TooMany, NoMemory}
+use Rattle.data_elements.specs.declared.wire_fault.WireFault.{WireFault}
+use Rattle.data_elements.specs.declared.wire_fault.WireFault.TheVariants.{BadFront, BadSignature, TreeFault, Extra, SchemaFault, TooMany, NoMemory}
 
 -- The front is that of a request, and a tree follows it and nothing more.
 pub record IsFramed (bytes : List ℕ) (tree : Tree) : Type 0 where

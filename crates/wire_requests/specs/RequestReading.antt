@@ -120,8 +120,8 @@ split (t ∷ ts) = if is_kind 0x15 t then Some ([], (t, ts)) else behind_first t
 abbrev pub parts_at : List ℕ → List Tree → Tree → List Tree → Result CellRequest ℕ
 parts_at input before package_object behind =
     and_then (gather (child_at input) [] before) (λ subs.
-        and_then (package_at input package_object) (λ elements.
-            and_then (gather (child_at input) subs behind) (λ all. Ok (record { subs = all; elements = elements }))))
+    and_then (package_at input package_object) (λ elements.
+    and_then (gather (child_at input) subs behind) (λ all. Ok (record { subs = all; elements = elements }))))
 
 abbrev pub split_at : List ℕ → ℕ → Option (List Tree × (Tree × List Tree)) → Result CellRequest ℕ
 split_at input place (Some s) = parts_at input s.0 s.1.0 s.1.1

@@ -5,11 +5,11 @@ ghost use Rattle.data_elements.specs.Reading.{package_at};
 ghost use Rattle.wire_requests.specs.RequestAnswers.{IsAnswer, IsOnlyAnswer, GivesElements, GivesRequest};
 ghost use Rattle.wire_requests.specs.RequestReading.{split, parts_at, request_at};
 
-use crate::fault::{WireFault, fault, wire_fault};
+use crate::fault::{fault, wire_fault};
 use crate::front::{has_signature, has_versions};
 use crate::subs::read_subs;
 use compact_values::Seq;
-use data_elements::read_package;
+use data_elements::{WireFault, read_package};
 use doc_model::{CellRequest, Elements};
 use std::alloc::Global;
 use stream_objects::{Tree, TreeFault, only_child, read_tree};
@@ -70,7 +70,13 @@ fn read_form(alloc: Global, bytes: &[u8], tree: &Tree) -> Result<CellRequest, Wi
         return Err(fault(tree));
     }
     match split(tree.children.as_slice()) {
-        Some((before, (package_object, behind))) => read_parts(alloc, bytes, before, package_object, behind),
+        Some((before, (package_object, behind))) => read_parts(
+            alloc,
+            bytes,
+            before,
+            package_object,
+            behind,
+        ),
         None => Err(fault(tree)),
     }
 }

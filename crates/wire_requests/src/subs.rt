@@ -6,11 +6,11 @@ ghost use Rattle.wire_requests.specs.RequestAnswers.{Gives, GivesTo};
 ghost use Rattle.wire_requests.specs.RequestReading.{knowledge_of, pull_at, put_fields_at, put_at, allocate_at, draw_at, what_at, sub_at, child_at};
 ghost use Rattle.data_elements.specs.KnowledgeReading.{knowledge_at};
 
-use crate::fault::{WireFault, fault, wire_fault};
+use crate::fault::{fault, wire_fault};
 use crate::fields::{allocate_row, put_row, sub_row};
 use crate::walk::first_below;
 use compact_values::{NoMemory, Seq};
-use data_elements::read_knowledge;
+use data_elements::{WireFault, read_knowledge};
 use doc_model::{Knowledge, WireKind, WireSub, WireSubs};
 use std::alloc::Global;
 use stream_objects::{Tree, only_child};
@@ -149,10 +149,8 @@ fn is_put(what: &WireKind) -> bool
 {
     match what {
         WireKind::Put { .. } => true,
-        WireKind::Access
-        | WireKind::Pull { .. }
-        | WireKind::Draw { .. }
-        | WireKind::Unknown => false,
+        WireKind::Access | WireKind::Pull { .. } | WireKind::Draw { .. } | WireKind::Unknown =>
+            false,
     }
 }
 

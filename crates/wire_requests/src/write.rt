@@ -18,12 +18,7 @@ const FRONT: [u8; 12] = [
 
 // A put.
 #[tactic(auto, unfolding(doc_model::specs::WrittenRequests::put_bytes, stream_objects::specs::Written::started))]
-fn write_put(
-    out: &mut Octets,
-    index: &ExGuid,
-    expected: &ExGuid,
-    flags: u8,
-) -> Result<(), NoMemory>
+fn write_put(out: &mut Octets, index: &ExGuid, expected: &ExGuid, flags: u8) -> Result<(), NoMemory>
     ensures { OnOk result (out.new ≡ out.old ++ put_bytes index.now expected.now flags) }
 {
     let size = exguid_size(index) + exguid_size(expected) + 1;

@@ -57,8 +57,8 @@ module _ {P : Type 0} (Own : P → Type 0) (start : P → ℕ) where
       (one : Tree → Result A ℕ) (other : Tree → Result B ℕ) (make : A → B → V) → start_of t ≡ start p → (HasOne j t → HasOne k t → Own p) → (Own p → HasOne j t × HasOne k t)
       → ((c : Tree) → Judges Own start (IsLeft c) (left c) (one c)) → ((c : Tree) → Judges Own start (IsRight c) (right c) (other c))
       → Judges Own start (λ v. (a : A) × (b : B) × One j IsLeft t a × One k IsRight t b × (v ≡ make a b))
-        (p ∷ (if first then flat_map left (children_of j t) ++ flat_map right (children_of k t) else flat_map right (children_of k t) ++ flat_map left (children_of j t)))
-        (both_with one other make (start_of t) first (single (children_of j t)) (single (children_of k t)))
+      (p ∷ (if first then flat_map left (children_of j t) ++ flat_map right (children_of k t) else flat_map right (children_of k t) ++ flat_map left (children_of j t)))
+      (both_with one other make (start_of t) first (single (children_of j t)) (single (children_of k t)))
   judges_both {A} {B} {V} t p j k first left right IsLeft IsRight one other make starts own back judge_left judge_right = go first (single (children_of j t)) (single (children_of k t)) refl refl where
     Both : V → Type 0
     Both v = (a : A) × (b : B) × One j IsLeft t a × One k IsRight t b × (v ≡ make a b)

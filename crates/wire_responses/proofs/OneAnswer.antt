@@ -1,5 +1,5 @@
 -- Bytes have one answer, where memory doesn't run out.
-use Rattle.std.proofs.Common.{◌≡◌, ◌≢◌, ◌⊎◌, ℕ, ◌<◌, List, length, Option, Some, None, Result, Ok, Err, inl, inr, refl, sym, ap, subst, arith}
+use Rattle.std.proofs.Common.{◌≡◌, ◌≢◌, ℕ, ◌<◌, List, length, Option, Some, None, Result, Ok, Err, inl, inr, refl, sym, ap, subst, arith}
 use Rattle.compact_values.proofs.LittleEndian.{IsBytes}
 use Rattle.stream_objects.specs.declared.tree.Tree.{Tree}
 use Rattle.stream_objects.specs.declared.fault.TreeFault.{TreeFault}
@@ -178,3 +178,6 @@ module _ (bytes : List ℕ) (fits : IsBytes bytes) where
   pub one_only : (x : Result CellResponse WireFault) → IsAnswer bytes x → IsOnlyAnswer bytes x
   one_only (Err faults.NoMemory) p other q some = inl refl
   one_only x p other q some = inr (one_of_two x other p q (λ e. absurd cc) some)
+
+  pub one_response : (r s : CellResponse) → ReadsAs bytes r → ReadsAs bytes s → r ≡ s
+  one_response r s p q = both_whole p.versions p.tree q.tree p.stands q.stands r s p.form q.form

@@ -1,7 +1,7 @@
 -- What is read of the objects that a sub-response holds is what they say, or where the first of them that isn't in its form
 -- starts.
-use Rattle.std.proofs.Common.{◌≡◌, ℕ, ◌<◌, ◌^◌, Bool, true, false, List, [], ◌∷◌, ◌++◌, map, Option, Some, None, Result, Ok, Err, inl, inr, refl, sym, ap, subst, ◌∙◌, eq-eqb, arith}
-use Rattle.std.specs.Prelude.{◌==◌, if◌then◌else◌}
+use Rattle.std.proofs.Common.{◌≡◌, ℕ, ◌<◌, ◌^◌, false, List, [], ◌∷◌, map, Option, Some, None, Result, Ok, Err, inl, inr, refl, sym, ap, subst, ◌∙◌, eq-eqb, arith}
+use Rattle.std.specs.Prelude.{if◌then◌else◌}
 use Rattle.std.specs.List.{AllByRecursion, flat_map}
 use Rattle.std.proofs.lemmas.Bool.{cases_Bool}
 use Rattle.std.proofs.lemmas.Bool.Decides.{eqb_tells}
@@ -20,7 +20,6 @@ use Rattle.stream_objects.specs.ObjectFields.{single}
 use Rattle.stream_objects.specs.Parts.{IsFirstBroken}
 use Rattle.stream_objects.proofs.Broken.{Judges, none_broken, one_broken}
 use Rattle.stream_objects.proofs.Children.{simple_gets, simple_again, IsBytes-fields}
-use Rattle.doc_model.specs.ElementObjects.{NoFields}
 use Rattle.doc_model.specs.Knowledges.{SaysKnowledge, IsKnowledge}
 use Rattle.doc_model.specs.KnowledgeParts.{guid_row}
 use Rattle.doc_model.specs.KnowledgeParts as knowledges

@@ -1,6 +1,6 @@
 -- What is read of a response is what it says, or where the first of its objects that isn't in its form starts.
-use Rattle.std.proofs.Common.{◌≡◌, ℕ, Bool, true, false, List, [], ◌∷◌, ◌++◌, map, Option, Some, None, Result, Ok, Err, inl, inr, refl, sym, ap, subst, ◌∙◌, append_assoc, eq-eqb}
-use Rattle.std.specs.Prelude.{◌==◌, ◌&&◌, is_some, filter, if◌then◌else◌}
+use Rattle.std.proofs.Common.{◌≡◌, ℕ, true, false, List, [], ◌∷◌, ◌++◌, map, Option, Some, None, Result, Ok, Err, inl, inr, refl, sym, ap, subst, ◌∙◌, append_assoc, eq-eqb}
+use Rattle.std.specs.Prelude.{◌&&◌, is_some, filter, if◌then◌else◌}
 use Rattle.std.specs.List.{AllByRecursion, flat_map}
 use Rattle.std.proofs.lemmas.Bool.Decides.{eqb_tells}
 use Rattle.std.proofs.lemmas.List.{append-nil}
@@ -20,13 +20,13 @@ use Rattle.doc_model.specs.ElementParts as elements
 use Rattle.doc_model.specs.NumberedElements.{IsNumberedPackage}
 use Rattle.doc_model.specs.NumberedElements as numbered
 use Rattle.doc_model.specs.SeenResponses.{IsSeen, IsCellResponse}
-use Rattle.doc_model.specs.ResponseParts.{Part, response, packed, InOwnForm, part_start, sub_parts, child_parts, response_parts}
+use Rattle.doc_model.specs.ResponseParts.{Part, packed, InOwnForm, part_start, sub_parts, child_parts, response_parts}
 use Rattle.doc_model.specs.declared.element.NumberedElement.{NumberedElement}
 use Rattle.doc_model.specs.declared.response.CellResponse.{CellResponse}
 use Rattle.doc_model.specs.declared.response.Seen.{Seen}
 use Rattle.data_elements.specs.NumberedReading.{numbered_package_at}
 use Rattle.data_elements.specs.Rows.{package_row}
-use Rattle.data_elements.proofs.NumberedLaws.{PackageBehind, judges_numbered_package, again_numbered_package}
+use Rattle.data_elements.proofs.NumberedLaws.{judges_numbered_package, again_numbered_package}
 use Rattle.data_elements.proofs.RowLaws.{compound_row_found, compound_row_again}
 use Rattle.wire_responses.specs.ResponseReading.{sub_at, and_answer, and_elements, child_at, children_at, is_zero, nothing_read, response_at}
 use Rattle.wire_responses.proofs.SubLaws.{judges_sub, again_sub}
@@ -85,16 +85,16 @@ module _ (input : List ℕ) (fits : IsBytes input) where
   answered t r y n (Err place) j = j
 
   packaged : (t : Tree) (r : CellResponse) → is_kind 0x41 t ≡ false → is_kind 0x15 t ≡ true → (x : Result (List NumberedElement) ℕ)
-      → Judges (numbered.InOwnForm input) elements.part_start (PackageBehind input fits t r.elements) (elements.package_parts input t) x
+      → Judges (numbered.InOwnForm input) elements.part_start (IsNumberedPackage input t) (elements.package_parts input t) x
       → Judges Own part_start (Behind (t ∷ []) r) (map packed (elements.package_parts input t)) (and_elements r x)
-  packaged t r n y (Ok all) j = (
+  packaged t r n y (Ok new) j = (
     record {
       new_answers = [];
-      new_elements = j.0.new;
+      new_elements = new;
       answers_are = sym (append-nil r.answers);
-      elements_are = j.0.all_are;
+      elements_are = refl;
       answers = subst (λ (l : List Tree). Each (IsSeen input) l []) (sym (filter_no 0x41 t [] n)) tt;
-      elements = subst (λ (l : List Tree). Gathers (IsNumberedPackage input) l j.0.new) (sym (filter_yes 0x15 t [] y)) (j.0.new, [], j.0.is, refl, sym (append-nil j.0.new));
+      elements = subst (λ (l : List Tree). Gathers (IsNumberedPackage input) l new) (sym (filter_yes 0x15 t [] y)) (new, [], j.0, refl, sym (append-nil new));
     },
     all_packed (elements.package_parts input t) j.1,
   )
@@ -107,7 +107,7 @@ module _ (input : List ℕ) (fits : IsBytes input) where
         | inl y ↦ rw y.0 (answered t r y.0 (not_both t y.1) (sub_at input t) (judges_sub input fits t))
         | inr n ↦
             elim (eqb_tells (kind_of t) 0x15) [
-              | inl y ↦ rw (n.0, y.0) (packaged t r n.0 y.0 (numbered_package_at input r.elements t) (judges_numbered_package input fits t r.elements))
+              | inl y ↦ rw (n.0, y.0) (packaged t r n.0 y.0 (numbered_package_at input t) (judges_numbered_package input fits t))
               | inr m ↦
                   rw (n.0, m.0) (
                     record {
@@ -239,7 +239,7 @@ module _ (input : List ℕ) (fits : IsBytes input) where
       → Each (IsSeen input) (filter (is_kind 0x41) ts) ss → Gathers (IsNumberedPackage input) (t ∷ filter (is_kind 0x15) ts) ns → children_at input (t ∷ ts) r ≡ Ok (made (r.answers ++ ss) (r.elements ++ ns))
   unfolding child_at made
   again_package t ts n y rest r ss ns g h =
-      let read : child_at input r t ≡ Ok (record r { elements = r.elements ++ h.0 }) = rw (n, y) (ap (and_elements r) (again_numbered_package input fits t r.elements h.0 h.2)) in
+      let read : child_at input r t ≡ Ok (record r { elements = r.elements ++ h.0 }) = rw (n, y) (ap (and_elements r) (again_numbered_package input fits t h.0 h.2)) in
       ap (λ (x : Result CellResponse ℕ). and_then x (children_at input ts)) read ∙ rest (record r { elements = r.elements ++ h.0 }) ss h.1 g h.3
       ∙ ap Ok (same_made (r.answers ++ ss) (r.answers ++ ss) ((r.elements ++ h.0) ++ h.1) (r.elements ++ ns) refl (append_assoc r.elements h.0 h.1 ∙ ap (λ (l : List NumberedElement). r.elements ++ l) (sym h.4)))
 

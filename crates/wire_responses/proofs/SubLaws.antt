@@ -1,16 +1,15 @@
 -- What is read of a sub-response is what it says, or where the first of its objects that isn't in its form starts.
-use Rattle.std.proofs.Common.{◌≡◌, ℕ, Bool, List, [], ◌∷◌, Option, Some, None, Result, Ok, Err, inl, inr, refl, sym, ap, subst, ◌∙◌}
+use Rattle.std.proofs.Common.{◌≡◌, ℕ, List, [], ◌∷◌, Option, Some, None, Result, Ok, inl, refl, sym, ap, subst, ◌∙◌}
 use Rattle.std.specs.List.{flat_map}
 use Rattle.compact_values.specs.Compact.{SpellsCompact}
 use Rattle.compact_values.specs.Sequences.{◌▹◌, SpellsByte}
 use Rattle.compact_values.specs.Taking.{take_compact, take_byte, take_both}
 use Rattle.compact_values.specs.declared.guid.Guid.{Guid}
-use Rattle.compact_values.specs.declared.ids.ExGuid.{ExGuid}
 use Rattle.compact_values.proofs.LittleEndian.{IsBytes}
 use Rattle.compact_values.proofs.Takes.{Takes, takes_compact, takes_byte, takes_both}
 use Rattle.stream_objects.specs.declared.tree.Tree.{Tree}
 use Rattle.stream_objects.specs.declared.tree.Tree.TheViews.{out-Tree}
-use Rattle.stream_objects.specs.Objects.{One, HasOne, start_of, children_of}
+use Rattle.stream_objects.specs.Objects.{One, start_of, children_of}
 use Rattle.stream_objects.specs.ObjectFields.{single}
 use Rattle.stream_objects.specs.Gathering.{and_then}
 use Rattle.stream_objects.proofs.Broken.{Judges}

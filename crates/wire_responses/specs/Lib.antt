@@ -1,3 +1,4 @@
 pub mod Forms
+pub mod Seeing
 pub mod ResponseReading
 pub mod ResponseAnswers

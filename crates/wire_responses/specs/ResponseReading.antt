@@ -154,14 +154,14 @@ and_answer r (Ok seen) = Ok (record r { answers = r.answers ++ seen ∷ [] })
 and_answer r (Err place) = Err place
 
 abbrev pub and_elements : CellResponse → Result (List NumberedElement) ℕ → Result CellResponse ℕ
-and_elements r (Ok elements) = Ok (record r { elements = elements })
+and_elements r (Ok elements) = Ok (record r { elements = r.elements ++ elements })
 and_elements r (Err place) = Err place
 
 -- a child, behind what was read before
 unfoldable pub child_at : List ℕ → CellResponse → Tree → Result CellResponse ℕ
 child_at input r t =
     if is_kind 0x41 t then and_answer r (sub_at input t)
-    else if is_kind 0x15 t then and_elements r (numbered_package_at input r.elements t)
+    else if is_kind 0x15 t then and_elements r (numbered_package_at input t)
     else Ok r
 
 abbrev pub children_at : List ℕ → List Tree → CellResponse → Result CellResponse ℕ

@@ -1,15 +1,19 @@
 //! Binary responses (MS-FSSHTTPB 2.2.3), written and read.
 //!
 //! - `front`: the bytes in front of a response
+//! - `error_guids`: which error an error object has
 //! - `rows`: the fields of the objects of a response
 //! - `reply`: what a sub-response holds
 //! - `sub_response`: reading a sub-response
 //! - `read`: reading a response
 //! - `write_reply`: writing what a sub-response holds
 //! - `write`: writing a response
+//! - `laws`: what holds of responses themselves
 #![tactic(auto)]
 
+mod error_guids;
 mod front;
+pub mod laws;
 mod read;
 mod reply;
 mod rows;

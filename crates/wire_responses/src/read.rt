@@ -2,21 +2,29 @@
 ghost use Rattle.std.specs.Prelude.{◌≡◌};
 ghost use Rattle.doc_model.specs.SeenResponses.{HasVersions, HasSignature};
 ghost use Rattle.wire_responses.specs.ResponseAnswers.{IsAnswer, IsOnlyAnswer, GivesIn, GivesResponse, GivesFew};
+ghost use Rattle.data_elements.specs.Answers.{Gives};
+ghost use Rattle.data_elements.specs.NumberedReading.{numbered_package_at};
 ghost use Rattle.data_elements.specs.Rows.{package_row};
 ghost use Rattle.wire_responses.specs.ResponseReading.{child_at, children_at, is_zero, response_at};
 
 use crate::front::{has_signature, has_versions};
 use crate::reply::fault;
-use crate::rows::byte_row;
 use crate::sub_response::read_sub_response;
 use compact_values::{NoMemory, Seq};
-use data_elements::{ElementFault, WireFault, read_numbered};
-use doc_model::CellResponse;
+use data_elements::{ElementFault, WireFault, package_row, read_numbered};
+use doc_model::{CellResponse, Numbered};
 use std::alloc::Global;
 use stream_objects::{Tree, TreeFault, only_child, read_tree};
 
 /// How many elements a response may have.
 const MOST_ELEMENTS: usize = 8192;
+
+// The elements of a package, with the values of their serial numbers.
+fn read_elements(alloc: Global, bytes: &[u8], tree: &Tree) -> Result<Numbered, ElementFault>
+    ensures { Gives result (numbered_package_at bytes.now tree.now) }
+{
+    read_numbered(alloc, bytes, tree)
+}
 
 // A child of a response, behind what was read before.
 #[tactic(auto, unfolding(crate::specs::ResponseReading::child_at))]
@@ -35,7 +43,11 @@ fn read_child(
             Err(NoMemory) => Err(ElementFault::NoMemory),
         }
     } else if tree.kind == 0x15 {
-        read_numbered(alloc, bytes, &mut response.elements, tree)
+        let elements = read_elements(alloc, bytes, tree)?;
+        match response.elements.append(elements) {
+            Ok(()) => Ok(()),
+            Err(NoMemory) => Err(ElementFault::NoMemory),
+        }
     } else {
         Ok(())
     }
@@ -60,7 +72,7 @@ fn read_children(
 fn has_zero_byte(bytes: &[u8], tree: &Tree) -> bool
     ensures { result ≡ is_zero (package_row bytes.now tree.now) }
 {
-    match byte_row(bytes, tree) {
+    match package_row(bytes, tree) {
         Some(byte) => byte == 0,
         None => false,
     }

@@ -4,18 +4,13 @@ ghost use Rattle.stream_objects.specs.Objects.{start_of};
 ghost use Rattle.data_elements.specs.Answers.{Gives};
 ghost use Rattle.wire_responses.specs.ResponseReading.{number_at, zero_at, failure_at, success_at, access_at, query_at, allocate_at, known_at};
 
-use crate::rows::{allocate_row, guid_row, has_no_fields, number_row, query_row};
+use crate::error_guids::{CELL_ERROR, HRESULT_ERROR};
+use crate::rows::{allocate_row, number_row, query_row};
 use compact_values::{ExGuid, Guid};
-use data_elements::{ElementFault, read_knowledge};
+use data_elements::{ElementFault, guid_row, has_no_fields, read_knowledge};
 use doc_model::Knowledge;
 use std::alloc::Global;
 use stream_objects::{Tree, only_child};
-
-/// The GUID of cell errors, 5a66a756-87ce-4290-a38b-c61c5ba05a67.
-const CELL_ERROR: u128 = 0x5a66_a756_87ce_4290_a38b_c61c_5ba0_5a67;
-
-/// The GUID of HRESULT errors, 8454c8f2-e401-405a-a198-a10b6991b56e.
-const HRESULT_ERROR: u128 = 0x8454_c8f2_e401_405a_a198_a10b_6991_b56e;
 
 /// The object isn't in its form.
 pub fn fault(tree: &Tree) -> ElementFault
@@ -54,7 +49,7 @@ pub fn read_failure(bytes: &[u8], tree: &Tree) -> Result<u32, ElementFault>
     let Some(guid) = guid_row(bytes, tree) else {
         return Err(fault(tree));
     };
-    if guid.number != CELL_ERROR {
+    if guid.number != CELL_ERROR.number {
         return Err(fault(tree));
     }
     match only_child(tree, 0x66) {
@@ -71,7 +66,7 @@ fn check_success(bytes: &[u8], tree: &Tree) -> Result<(), ElementFault>
     let Some(guid) = guid_row(bytes, tree) else {
         return Err(fault(tree));
     };
-    if guid.number != HRESULT_ERROR {
+    if guid.number != HRESULT_ERROR.number {
         return Err(fault(tree));
     }
     match only_child(tree, 0x52) {

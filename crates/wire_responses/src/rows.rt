@@ -1,34 +1,13 @@
 // The fields of the objects of a response.
 ghost use Rattle.std.specs.Prelude.{◌≡◌};
-ghost use Rattle.doc_model.specs.KnowledgeParts.{guid_row};
 ghost use Rattle.doc_model.specs.ResponseParts.{sub_row};
 ghost use Rattle.doc_model.specs.SeenResponses.{reply_form};
-ghost use Rattle.data_elements.specs.Rows.{has_no_fields, package_row};
 ghost use Rattle.wire_responses.specs.ResponseReading.{number_row, query_row, allocate_row};
 
 use byteorder::{ByteOrder, LittleEndian};
 use compact_values::{ExGuid, Guid, take_byte, take_compact, take_exguid, take_guid};
 use doc_model::ReplyForm;
 use stream_objects::{Tree, compound_fields, simple_fields};
-
-/// Whether it is a compound object without fields.
-pub fn has_no_fields(bytes: &[u8], tree: &Tree) -> bool
-    ensures { result ≡ has_no_fields bytes.now tree.now }
-{
-    match compound_fields(bytes, tree) {
-        Some([]) => true,
-        _ => false,
-    }
-}
-
-/// The byte of a response.
-pub fn byte_row(bytes: &[u8], tree: &Tree) -> Option<u8>
-    ensures { result ≡ package_row bytes.now tree.now }
-{
-    let fields = compound_fields(bytes, tree)?;
-    let (byte, rest) = take_byte(fields)?;
-    if rest.is_empty() { Some(byte) } else { None }
-}
 
 /// The number of an error.
 #[tactic(auto, unfolding(crate::specs::ResponseReading::number_row))]
@@ -39,15 +18,6 @@ pub fn number_row(bytes: &[u8], tree: &Tree) -> Option<u32>
         [a, b, c, d] => Some(LittleEndian::read_u32(&[*a, *b, *c, *d])),
         _ => None,
     }
-}
-
-/// The GUID of an error.
-pub fn guid_row(bytes: &[u8], tree: &Tree) -> Option<Guid>
-    ensures { result ≡ guid_row bytes.now tree.now }
-{
-    let fields = compound_fields(bytes, tree)?;
-    let (guid, rest) = take_guid(fields)?;
-    if rest.is_empty() { Some(guid) } else { None }
 }
 
 /// The index of a query answer, and the byte that says whether it is partial.

@@ -5,9 +5,7 @@ ghost use Rattle.doc_model.specs.ResponseParts.{comes_first};
 ghost use Rattle.doc_model.specs.SeenResponses.{blank};
 ghost use Rattle.wire_responses.specs.ResponseReading.{failed_at, answered_access_at, pulled_at, stored_at, drawn_at, sub_at};
 
-use crate::reply::{
-    check_access, fault, read_allocate, read_failure, read_known, read_query,
-};
+use crate::reply::{check_access, fault, read_allocate, read_failure, read_known, read_query};
 use crate::rows::{reply_form, sub_row};
 use compact_values::{ExGuid, Guid, Seq};
 use data_elements::ElementFault;

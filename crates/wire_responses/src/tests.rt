@@ -198,7 +198,9 @@ fn access_is_written(rt: HostRuntime) -> Result<(), Fail> {
 
 #[test]
 fn access_is_read(rt: HostRuntime) -> Result<(), Fail> {
-    let expected = response(rt.alloc(), blank(rt.alloc(), 1)).ok().ok_or("memory")?;
+    let expected = response(rt.alloc(), blank(rt.alloc(), 1))
+        .ok()
+        .ok_or("memory")?;
     assert_eq!(rt; read_cell_response(rt.alloc(), &ACCESS), Ok(expected));
     Ok(())
 }
@@ -220,7 +222,9 @@ fn the_pull_of_an_empty_document_is_written(rt: HostRuntime) -> Result<(), Fail>
 
 #[test]
 fn the_pull_of_an_empty_document_is_read(rt: HostRuntime) -> Result<(), Fail> {
-    let expected = response(rt.alloc(), blank(rt.alloc(), 2)).ok().ok_or("memory")?;
+    let expected = response(rt.alloc(), blank(rt.alloc(), 2))
+        .ok()
+        .ok_or("memory")?;
     assert_eq!(rt; read_cell_response(rt.alloc(), &EMPTY), Ok(expected));
     Ok(())
 }

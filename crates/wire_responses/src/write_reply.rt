@@ -7,22 +7,13 @@ ghost use Rattle.compact_values.specs.Ids.{exguid};
 ghost use Rattle.doc_model.specs.Responses.{reply_objects, error_object, success_object, status_byte, code_number};
 ghost use Rattle.stream_objects.specs.Written.{simple_object, compound_object};
 
+use crate::error_guids::{CELL_ERROR, HRESULT_ERROR};
 use byteorder::{ByteOrder, LittleEndian};
 use compact_values::{ExGuid, Guid, NoMemory, Octets, guid_bytes, write_compact, write_exguid};
 use data_elements::write_knowledge;
 use doc_model::{Code, Reply, Submitted};
 use std::alloc::Global;
 use stream_objects::{begin, finish};
-
-/// The GUID of cell errors, 5a66a756-87ce-4290-a38b-c61c5ba05a67.
-const CELL_ERROR: Guid = Guid {
-    number: 0x5a66_a756_87ce_4290_a38b_c61c_5ba0_5a67,
-};
-
-/// The GUID of HRESULT errors, 8454c8f2-e401-405a-a198-a10b6991b56e.
-const HRESULT_ERROR: Guid = Guid {
-    number: 0x8454_c8f2_e401_405a_a198_a10b_6991_b56e,
-};
 
 // The 4 bytes of a number, the least first.
 fn four_bytes(number: u32) -> [u8; 4]
@@ -119,7 +110,9 @@ fn write_answered(alloc: Global, out: &mut Octets, reply: &Reply) -> Result<(), 
     match reply {
         Reply::Access => write_access(out),
         Reply::Pulled {
-            index, knowledge, ..
+            index,
+            knowledge,
+            ..
         } => {
             write_query(alloc, out, index)?;
             write_knowledge(out, knowledge)

@@ -1,4 +1,4 @@
-use Rattle.doc_model.proofs.Download.{downloads, downloads-nothing}
+use Rattle.doc_model.proofs.Download.{downloads, downloads-nothing, downloads-reached}
 use Rattle.doc_model.proofs.laws.downloads_the_file.Goals as goal
 
 pub returns-clause-file : goal.returns-clause-file
@@ -6,3 +6,6 @@ returns-clause-file c = downloads
 
 pub returns-clause-nothing : goal.returns-clause-nothing
 returns-clause-nothing c = downloads-nothing
+
+pub returns-clause-reached : goal.returns-clause-reached
+returns-clause-reached c = downloads-reached

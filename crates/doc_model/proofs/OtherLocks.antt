@@ -1,0 +1,25 @@
+-- Calls that are no lock steps leave the lock as it is.
+use Rattle.std.proofs.Common.{◌≡◌, ℕ, refl, Bool, true, false, cond, List, Option, Some, None}
+use Rattle.doc_model.specs.declared.call.Put.{Put}
+use Rattle.doc_model.specs.declared.doc.Doc.{Doc}
+use Rattle.doc_model.specs.declared.lock.LockRecord.{LockRecord}
+use Rattle.doc_model.specs.declared.reply.Code.{Code}
+use Rattle.doc_model.specs.Drawing.{can_draw, draw}
+use Rattle.doc_model.specs.Puts.{put, is_part, part_refusal, commit_refusal, kept, committed}
+use Rattle.doc_model.specs.Turns.{Turn, unless}
+
+chosen : (b : Bool) (x y : Turn) (l : LockRecord) → x.doc.lock ≡ l → y.doc.lock ≡ l → (cond b x y).doc.lock ≡ l
+chosen true x y l p q = p
+chosen false x y l p q = q
+
+unless-lock : (o : Option Code) (doc : Doc) (done : Turn) → done.doc.lock ≡ doc.lock → (unless o doc done).doc.lock ≡ doc.lock
+unless-lock None doc done e = e
+unless-lock (Some c) doc done e = refl
+
+pub put-lock : (doc : Doc) (m : ℕ) (user : List ℕ) (p : Put) → (put doc m user p).doc.lock ≡ doc.lock
+put-lock doc m user p =
+    chosen (is_part p) (unless (part_refusal doc m p) doc (kept doc m p)) (unless (commit_refusal doc m p) doc (committed doc m user p)) doc.lock
+    (unless-lock (part_refusal doc m p) doc (kept doc m p) refl) (unless-lock (commit_refusal doc m p) doc (committed doc m user p) refl)
+
+pub draw-lock : (doc : Doc) (count : ℕ) → (draw doc count).doc.lock ≡ doc.lock
+draw-lock doc count = chosen (can_draw doc count) _ _ doc.lock refl refl
