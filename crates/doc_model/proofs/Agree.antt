@@ -24,7 +24,7 @@ use Rattle.doc_model.specs.Reached.{name, mapping_of, manifest_of, base_of, name
 use Rattle.doc_model.proofs.EachItem.{each-front, each-back, each-map, each-flat, each-flat-map, each-both, each-as, map-same, flat-same, all-same}
 use Rattle.doc_model.proofs.Firsts.{first-kept}
 
-first-cell : (Q : CellMap → Type 0) (key : CellId) (cells : List CellMap) (c : CellMap) → Each Q (firsts same_cells cells)
+pub first-cell : (Q : CellMap → Type 0) (key : CellId) (cells : List CellMap) (c : CellMap) → Each Q (firsts same_cells cells)
     → find (λ m. same_cell m.cell key) cells ≡ Some c → Q c
 first-cell Q key cells c h e =
     first-kept Q same_cells (λ m. same_cell m.cell key) (λ x k a s. subst (λ (z : CellId). same_cell z key ≡ true) (cell-same x.cell k.cell a) s) [] cells c refl h e
@@ -72,7 +72,7 @@ module _ (a b : List Element) where
         by-manifest (Some m) later rest = ap (λ c. option_map (λ ms. m ∷ ms) c) (later m.base rest)
 
     -- what is named by the groups of the revisions that are named, is named by those of a chain
-    chain-each : (G : ExGuid → Type 0) (n f : ℕ) (r : ExGuid) (ms : List Manifest) → n ≤ f
+    pub chain-each : (G : ExGuid → Type 0) (n f : ℕ) (r : ExGuid) (ms : List Manifest) → n ≤ f
         → Each (λ x. Each G (groups_of a maps x)) (named_along a maps f r) → chain a maps n r ≡ Some ms → Each (λ m. Each G m.groups) ms
     unfolding chain named_along
     chain-each G n f Null ms le h e = let s : [] ≡ ms = cc in subst (Each (λ m. Each G m.groups)) s tt

@@ -3,3 +3,7 @@ pub mod Cataloging
 pub mod Keeping
 pub mod Weighing
 pub mod Sending
+pub mod Uploading
+pub mod Filing
+pub mod Refusing
+pub mod Reaching

@@ -129,7 +129,7 @@ fn name_blobs(alloc: Global, catalog: &Catalog<'_>, groups: &[ExGuid]) -> Result
 }
 
 /// Of two mappings of one cell the first.
-fn cells_of(alloc: Global, cells: &[CellMap]) -> Result<CellMaps, NoMemory>
+pub fn cells_of(alloc: Global, cells: &[CellMap]) -> Result<CellMaps, NoMemory>
     ensures { IfOk result (λ kept. kept ≡ firsts same_cells cells.now) }
 {
     let mut kept = Seq::new(alloc);
@@ -148,7 +148,7 @@ fn has_cell(kept: &[CellMap], c: &CellMap) -> bool
 }
 
 /// The current revisions of the cells.
-fn currents_of(alloc: Global, catalog: &Catalog<'_>, cells: &[CellMap]) -> Result<Ids, NoMemory>
+pub fn currents_of(alloc: Global, catalog: &Catalog<'_>, cells: &[CellMap]) -> Result<Ids, NoMemory>
     ensures { IfOk result (λ ids. ids ≡ map (current_of (listed catalog.now)) cells.now) }
 {
     let mut ids = Seq::new(alloc);

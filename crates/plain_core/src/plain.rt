@@ -1,30 +1,29 @@
 // A document as its lists.
-ghost use Rattle.std.specs.Prelude.{◌≡◌, IfOk, IsSome, Some};
-ghost use Rattle.doc_model.specs.Apply.{apply, empty_doc, IsPlanned};
-ghost use Rattle.doc_model.specs.Drawing.{draw};
-ghost use Rattle.doc_model.specs.Pulls.{pull};
-ghost use Rattle.doc_model.specs.Sound.{Sound};
-ghost use Rattle.doc_model.specs.Turns.{reading};
-ghost use Rattle.plain_core.specs.Keeping.{doc_of, planned_of};
+ghost use Rattle.std.specs.Prelude.{◌≡◌, ◌<◌, ◌^◌, true, IfOk, IsSome, OnOk, Some, IsTrue};
+ghost use Rattle.std.specs.List.{list_all};
+ghost use Rattle.plain_core.specs.Weighing.{all_few, few_parts};
 
 use crate::pull::pull;
 use compact_values::{Copied, Guid, NoMemory, Seq};
 use doc_model::{
-    Call, Code, Commit, Core, Doc, Editors, Element, LockRecord, Parts, Plan, Range, Reply, Sub,
+    Call, Code, Commit, Core, Doc, Editors, Element, LockRecord, Part, Parts, Plan, Range, Reply,
+    Sub,
 };
 use std::alloc::Global;
 
-/// A document as its lists.
+/// A document as its lists. Each of its elements is written in few enough stream objects to be weighed.
 #[derive(Drop)]
 pub struct PlainCore {
-    alloc: Global,
-    guid: Guid,
-    added: Vec<Element>,
-    commits: Vec<Commit>,
-    lock: LockRecord,
-    editors: Editors,
-    parts: Parts,
-    drawn: u64,
+    pub(crate) alloc: Global,
+    pub(crate) guid: Guid,
+    pub(crate) added: Vec<Element>,
+    pub(crate) commits: Vec<Commit>,
+    pub(crate) lock: LockRecord,
+    pub(crate) editors: Editors,
+    pub(crate) parts: Parts,
+    pub(crate) drawn: u64,
+    ghost few: { all_few added.items ≡ true },
+    ghost few_pending: { few_parts parts ≡ true },
 }
 
 /// What a plan changes.
@@ -33,10 +32,34 @@ pub enum Change {
     /// The document stays as it is.
     Nothing,
     /// So many numbers are then drawn.
-    Draw { drawn: u64 },
+    Draw {
+        drawn: u64,
+    },
+    /// This is then the lock.
+    Lock {
+        lock: LockRecord,
+    },
+    /// These are then the uploads that aren't complete.
+    Keep {
+        parts: Parts,
+    },
+    /// The elements and the version join the others, and these are then the uploads that aren't complete.
+    Commit {
+        fresh: Vec<Element>,
+        commit: Commit,
+        parts: Parts,
+    },
 }
 
 impl PlainCore {
+    ghost use Rattle.doc_model.specs.Apply.{empty_doc, IsPlanned};
+    ghost use Rattle.doc_model.specs.Drawing.{draw};
+    ghost use Rattle.doc_model.specs.Pulls.{pull};
+    ghost use Rattle.doc_model.specs.Sound.{Sound};
+    ghost use Rattle.doc_model.specs.Turns.{reading};
+    ghost use Rattle.plain_core.specs.Keeping.{doc_of, has_room, leads_to, planned_of};
+    ghost use Rattle.plain_core.specs.declared.plain.Change.TheVariants as changes;
+
     /// An empty document.
     pub fn new(alloc: Global, guid: Guid) -> Result<PlainCore, NoMemory>
         ensures { IfOk result (λ core. doc_of core ≡ empty_doc guid) }
@@ -80,8 +103,9 @@ impl PlainCore {
     }
 
     /// Answers, and leaves the document as it is.
-    fn read(&self, reply: Reply) -> Plan<Change>
-        ensures { IsPlanned (reading (doc_of self.now) reply) result (planned_of self.now result.fresh) }
+    pub(crate) fn read(&self, reply: Reply) -> Plan<Change>
+        ensures room { has_room self.now result.fresh ≡ true }
+        ensures planned { IsPlanned (reading (doc_of self.now) reply) result (leads_to (doc_of self.now) result.fresh) }
     {
         Plan {
             moved: false,
@@ -99,6 +123,44 @@ impl PlainCore {
         let commits = self.commits.as_slice();
         let reply = pull(alloc, self.guid, added, commits, known)?;
         Ok(self.read(reply))
+    }
+
+    /// Makes room for what the change adds.
+    pub(crate) fn make_room(&mut self, change: &Change) -> Result<(), NoMemory>
+        ensures same { doc_of self.new ≡ doc_of self.old }
+        ensures room { OnOk result (has_room self.new change.now ≡ true) }
+    {
+        match change {
+            Change::Commit { fresh, .. } => {
+                let Ok(()) = self.added.reserve(fresh.len()) else {
+                    return Err(NoMemory);
+                };
+                let Ok(()) = self.commits.reserve(1) else {
+                    return Err(NoMemory);
+                };
+                Ok(())
+            }
+            _ => Ok(()),
+        }
+    }
+
+    // Adds what was committed, for which there is room.
+    fn add(&mut self, fresh: Vec<Element>, commit: Commit, parts: Parts)
+        requires room { has_room self.old (changes.Commit fresh commit parts) ≡ true }
+        requires few { all_few fresh.items ≡ true }
+        requires few_pending { few_parts parts ≡ true }
+        ensures { Some (doc_of self.new) ≡ leads_to (doc_of self.old) (changes.Commit fresh commit parts) }
+    {
+        let mut fresh = fresh;
+        match self.added.append(&mut fresh) {
+            Ok(()) => {}
+            Err(_) => unreachable!(),
+        }
+        match self.commits.push(commit) {
+            Ok(()) => {}
+            Err(_) => unreachable!(),
+        }
+        self.parts = parts;
     }
 
     /// Draws so many numbers.
@@ -127,6 +189,9 @@ impl PlainCore {
 }
 
 impl Core for PlainCore {
+    ghost use Rattle.doc_model.specs.Apply.{apply};
+    ghost use Rattle.plain_core.specs.Keeping.{doc_of, planned_of};
+
     type Fresh = Change;
 
     ghost doc = { doc_of };
@@ -137,9 +202,9 @@ impl Core for PlainCore {
         match &call.sub {
             Sub::Access => Ok(self.read(Reply::Access)),
             Sub::Pull { knowledge } => self.plan_pull(knowledge.ranges.as_slice()),
-            Sub::Put { .. } => Err(NoMemory),
+            Sub::Put { put } => self.plan_put(call.moment, &call.user, put),
             Sub::Draw { count } => Ok(self.plan_draw(*count)),
-            Sub::Lock { .. } => Err(NoMemory),
+            Sub::Lock { step } => self.plan_lock(call.moment, step),
         }
     }
 
@@ -152,6 +217,13 @@ impl Core for PlainCore {
         match fresh {
             Change::Nothing => {}
             Change::Draw { drawn } => self.drawn = drawn,
+            Change::Lock { lock } => self.lock = lock,
+            Change::Keep { parts } => self.parts = parts,
+            Change::Commit {
+                fresh,
+                commit,
+                parts,
+            } => self.add(fresh, commit, parts),
         }
         reply
     }
