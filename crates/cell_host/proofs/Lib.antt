@@ -1,3 +1,1 @@
 mod Words
-mod RequestLaws
-mod OneAnswer
