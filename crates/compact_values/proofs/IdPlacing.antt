@@ -45,9 +45,11 @@ known-stays xs y q known = place-append y q xs ∙ by_test (same_id y q) refl
     there : (o : Option ℕ) (b : Bool) (n : ℕ) → is_some o ≡ true → option_or o (cond b (Some n) None) ≡ o
     there None b n h = cc
     there (Some k) b n h = refl
+
     none : (o : Option ℕ) → option_or o None ≡ o
     none None = refl
     none (Some k) = refl
+
     by_test : (b : Bool) → same_id y q ≡ b → option_or (place_of xs q) (cond (same_id y q) (Some (length xs)) None) ≡ place_of xs q
     by_test true e = there (place_of xs q) (same_id y q) (length xs) (ap (λ i. is_some (place_of xs i)) (sym (id-same y q e)) ∙ known)
     by_test false e = ap (λ b. option_or (place_of xs q) (cond b (Some (length xs)) None)) e ∙ none (place_of xs q)
@@ -59,6 +61,7 @@ new-joins xs y q new = place-append y q xs ∙ by_test (same_id y q) refl
     none : (o : Option ℕ) → option_or o None ≡ o
     none None = refl
     none (Some k) = refl
+
     by_test : (b : Bool) → same_id y q ≡ b
         → option_or (place_of xs q) (cond (same_id y q) (Some (length xs)) None) ≡ cond (same_id y q) (Some (length xs)) (place_of xs q)
     by_test true e =

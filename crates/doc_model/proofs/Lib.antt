@@ -25,4 +25,3 @@ pub mod SoundLocks
 pub mod Reasons
 pub mod SameContents
 pub mod OtherLocks
-pub mod Timeouts

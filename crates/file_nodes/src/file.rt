@@ -79,7 +79,7 @@ fn file_of_node(
         return Err(NodeFault::NoMemory);
     };
     let Some(link) = links.get(place) else {
-        return Err(NodeFault::NoMemory);
+        unreachable!()
     };
     let size = node_by(walks.as_slice(), top, link)?;
     if size > LARGEST {

@@ -1,8 +1,7 @@
 -- A shared lock that counts is one with a live member.
-use Rattle.std.proofs.Common.{◌≡◌, ℕ, refl, sym, Bool, true, false, ◌||◌, cond, List, [], ◌∷◌, filter, Option}
+use Rattle.std.proofs.Common.{◌≡◌, ℕ, refl, Bool, true, false, ◌||◌, cond, List, [], ◌∷◌, filter, Option}
 use Rattle.std.specs.List.{list_any}
 use Rattle.compact_values.specs.declared.guid.Guid.{Guid}
-use Rattle.doc_model.specs.declared.lock.LockRecord.{LockRecord}
 use Rattle.doc_model.specs.declared.lock.Member.{Member}
 use Rattle.doc_model.specs.Locks.{shared_by, allowed, carries, is_live}
 

@@ -12,12 +12,19 @@ use std::test::Fail;
 const G: Guid = Guid {
     number: 0x0011_2233_4455_6677_8899_aabb_ccdd_eeff,
 };
+
 const L: Guid = Guid { number: 0x10 };
+
 const M: Guid = Guid { number: 0x11 };
+
 const S: Guid = Guid { number: 0x20 };
+
 const T: Guid = Guid { number: 0x21 };
+
 const A: Guid = Guid { number: 0x30 };
+
 const B: Guid = Guid { number: 0x31 };
+
 const C: Guid = Guid { number: 0x32 };
 
 /// The lock that a document has after a step, and what the step is answered.

@@ -21,7 +21,7 @@ use Rattle.doc_model.proofs.Agree.{first-cell, chain-each}
 use Rattle.doc_model.proofs.EachItem.{each-back, each-map, each-flat, each-flat-map, each-as, map-same}
 use Rattle.file_nodes.specs.FileWalks as walks
 use Rattle.file_nodes.specs.declared.object_map.StoredObject.{StoredObject}
-use Rattle.plain_core.specs.Filing.{stored, stored_objects, stored_file}
+use Rattle.plain_core.specs.Filing.{stored, objects_with_bytes, file_with_bytes}
 
 -- each name is found where none is absent
 all-found : (ns : List Name) → option_map (λ n. n.id) (find (λ n. not n.found) ns) ≡ None → Each (λ n. n.found ≡ true) ns
@@ -133,12 +133,12 @@ module _ (added : List Element) where
   map-twice f g (x ∷ xs) = ap (λ ys. f (g x) ∷ ys) (map-twice f g xs)
 
   -- so the file is the one of the objects that are kept
-  chain-kept : (ms : List Manifest) → Each (λ m. Each HasBlobs m.groups) ms → stored_file added ms ≡ file_of_chain added ms
+  chain-kept : (ms : List Manifest) → Each (λ m. Each HasBlobs m.groups) ms → file_with_bytes added ms ≡ file_of_chain added ms
   chain-kept ms h =
       ap (λ os. option_and_then (root_file os) (root_object ms))
       (map-twice walks.as_file_object (stored added) (objects_of added ms)
       ∙ map-same (λ o. walks.as_file_object (stored added o)) (as_file_object added) (objects_of added ms) (objects-kept ms h))
 
-  pub file-kept : (index : ExGuid) (ms : List Manifest) → absent added index ≡ None → root_chain added index ≡ Some ms → stored_file added ms ≡ file added index
+  pub file-kept : (index : ExGuid) (ms : List Manifest) → absent added index ≡ None → root_chain added index ≡ Some ms → file_with_bytes added ms ≡ file added index
   file-kept index ms a e =
       chain-kept ms (under-index (said as_index added index) ms (all-found (names added index) a).1 e) ∙ sym (ap (option_and_then (file_of_chain added)) e)

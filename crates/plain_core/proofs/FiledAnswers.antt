@@ -6,19 +6,17 @@ use Rattle.compact_values.specs.declared.fault.NoMemory.{NoMemory}
 use Rattle.compact_values.specs.declared.ids.ExGuid.{ExGuid}
 use Rattle.doc_model.specs.declared.element.Element.{Element}
 use Rattle.doc_model.specs.Files.{root_object}
-use Rattle.doc_model.specs.FileObjects.{root_file}
 use Rattle.doc_model.specs.Finding.{Manifest}
-use Rattle.file_nodes.specs.FileAnswers.{Exactly, IsFile, IsOrNoMemory, IsTooLarge, largest_file}
-use Rattle.file_nodes.specs.FileWalks.{file_objects}
+use Rattle.file_nodes.specs.FileAnswers.{Exactly, IsFile, IsOrNoMemory, IsTooLarge, largest_file, stored_file}
 use Rattle.file_nodes.specs.declared.fault.NodeFault.{NodeFault}
 use Rattle.file_nodes.specs.declared.fault.NodeFault.TheVariants as faults
 use Rattle.file_nodes.specs.declared.object_map.StoredObject.{StoredObject}
-use Rattle.plain_core.specs.Filing.{IsFiled, without_file, stored_objects, stored_file}
+use Rattle.plain_core.specs.Filing.{IsFiled, without_file, objects_with_bytes, file_with_bytes}
 use Rattle.plain_core.specs.declared.file.Filed.{Filed}
 
 module _ (objects : List StoredObject) (root : ExGuid) where
   abbrev found : Option (List ℕ)
-  found = root_file (file_objects objects) root
+  found = stored_file objects root
 
   -- what is answered where there is a file, and where it is too large
   abbrev pub WhereFile : Result (List ℕ) NodeFault → Type 0
@@ -56,15 +54,15 @@ module _ (objects : List StoredObject) (root : ExGuid) where
   by-fault (faults.SizeDiffers size other) f l = no-file (faults.SizeDiffers size other) (λ e. cc) (λ e. cc) f l
 
 -- the file of the first root of these revisions
-under-root : (added : List Element) (ms : List Manifest) (objects : List StoredObject) (root : ExGuid) → objects ≡ stored_objects added ms → Some root ≡ root_object ms
-    → root_file (file_objects objects) root ≡ stored_file added ms
+under-root : (added : List Element) (ms : List Manifest) (objects : List StoredObject) (root : ExGuid) → objects ≡ objects_with_bytes added ms → Some root ≡ root_object ms
+    → stored_file objects root ≡ file_with_bytes added ms
 under-root added ms objects root o r =
-    ap (λ xs. root_file (file_objects xs) root) o ∙ ap (option_and_then (root_file (file_objects (stored_objects added ms)))) r
+    ap (λ xs. stored_file xs root) o ∙ ap (option_and_then (stored_file (objects_with_bytes added ms))) r
 
-module _ (added : List Element) (ms : List Manifest) (objects : List StoredObject) (root : ExGuid) (o : objects ≡ stored_objects added ms) (r : Some root ≡ root_object ms) where
+module _ (added : List Element) (ms : List Manifest) (objects : List StoredObject) (root : ExGuid) (o : objects ≡ objects_with_bytes added ms) (r : Some root ≡ root_object ms) where
   pub answered-fault : (answer : Result (List ℕ) NodeFault) (fault : NodeFault) (given : Result Filed NoMemory) → answer ≡ Err fault → given ≡ without_file fault
-      → WhereFile objects root answer → WhereLarge objects root answer → IfOk given (λ filed. IsFiled filed (stored_file added ms))
+      → WhereFile objects root answer → WhereLarge objects root answer → IfOk given (λ filed. IsFiled filed (file_with_bytes added ms))
   answered-fault answer fault given a g f l =
-      subst (λ (x : Result Filed NoMemory). IfOk x (λ filed. IsFiled filed (stored_file added ms))) (sym g)
+      subst (λ (x : Result Filed NoMemory). IfOk x (λ filed. IsFiled filed (file_with_bytes added ms))) (sym g)
       (subst (λ (file : Option (List ℕ)). IfOk (without_file fault) (λ filed. IsFiled filed file)) (under-root added ms objects root o r)
       (by-fault objects root fault (subst (WhereFile objects root) a f) (subst (WhereLarge objects root) a l)))

@@ -5,3 +5,4 @@ pub mod SentSerials
 pub mod ChainSteps
 pub mod FiledAnswers
 pub mod BlobsFound
+pub mod FewObjects

@@ -4,10 +4,9 @@ use Rattle.compact_values.specs.declared.ids.ExGuid.{ExGuid}
 use Rattle.doc_model.specs.declared.element.Element.{Element}
 use Rattle.doc_model.specs.declared.element.Object.{Object}
 use Rattle.doc_model.specs.Files.{objects_of, own_bytes, root_object}
-use Rattle.doc_model.specs.FileObjects.{root_file}
 use Rattle.doc_model.specs.Finding.{Manifest}
 use Rattle.doc_model.specs.Limits.{most_file}
-use Rattle.file_nodes.specs.FileWalks.{file_objects}
+use Rattle.file_nodes.specs.FileAnswers.{stored_file}
 use Rattle.file_nodes.specs.declared.object_map.StoredObject.{StoredObject}
 use Rattle.file_nodes.specs.declared.fault.NodeFault.{NodeFault}
 use Rattle.file_nodes.specs.declared.fault.NodeFault.TheVariants as faults
@@ -25,12 +24,12 @@ IsFiled (File bytes) file = (file ≡ Some bytes) × (length bytes ≤ most_file
 abbrev pub stored : List Element → Object → StoredObject
 stored added o = record { id = o.id; references = o.references; bytes = unwrap_or (own_bytes added o.content) [] }
 
-abbrev pub stored_objects : List Element → List Manifest → List StoredObject
-stored_objects added manifests = map (stored added) (objects_of added manifests)
+abbrev pub objects_with_bytes : List Element → List Manifest → List StoredObject
+objects_with_bytes added manifests = map (stored added) (objects_of added manifests)
 
 -- the file that these revisions stand for, where each blob that isn't there counts as empty
-abbrev pub stored_file : List Element → List Manifest → Option (List ℕ)
-stored_file added manifests = option_and_then (root_file (file_objects (stored_objects added manifests))) (root_object manifests)
+abbrev pub file_with_bytes : List Element → List Manifest → Option (List ℕ)
+file_with_bytes added manifests = option_and_then (stored_file (objects_with_bytes added manifests)) (root_object manifests)
 
 -- what is answered where the objects of a file have this fault
 abbrev pub without_file : NodeFault → Result Filed NoMemory

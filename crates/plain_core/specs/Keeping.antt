@@ -4,7 +4,7 @@ use Rattle.doc_model.specs.declared.doc.Doc.{Doc}
 use Rattle.plain_core.specs.Weighing.{all_few, few_parts}
 use Rattle.plain_core.specs.declared.plain.PlainCore.{PlainCore}
 use Rattle.plain_core.specs.declared.plain.Change.{Change}
-use Rattle.plain_core.specs.declared.plain.Change.TheVariants.{Nothing, Draw, Keep, Commit}
+use Rattle.plain_core.specs.declared.plain.Change.TheVariants.{Nothing, Draw, Lock, Keep, Commit}
 
 abbrev pub doc_of : PlainCore → Doc
 doc_of s = record {
@@ -21,6 +21,7 @@ doc_of s = record {
 abbrev pub leads_to : Doc → Change → Option Doc
 leads_to doc Nothing = Some doc
 leads_to doc (Draw drawn) = Some (record doc { drawn = drawn })
+leads_to doc (Lock lock) = Some (record doc { lock = lock })
 leads_to doc (Keep parts) = if few_parts parts then Some (record doc { parts = parts }) else None
 leads_to doc (Commit fresh commit parts) =
     if all_few fresh.items && few_parts parts

@@ -111,14 +111,21 @@ impl<'a> Catalog<'a> {
         Ok(())
     }
 
-    /// What it was made with, and what was added behind.
-    pub fn slices(&self) -> (&[Element], &[Element])
-        ensures { result.0.now ++ result.1.now ≡ listed self.now }
+    /// The elements that it was made with.
+    pub fn added(&self) -> &[Element]
+        ensures { result.now ≡ self.now.added.now }
     {
-        (self.added, self.fresh.as_slice())
+        self.added
     }
 
-    /// The same, each on its own.
+    /// The elements that were added behind them.
+    pub fn fresh(&self) -> &[Element]
+        ensures { result.now ≡ self.now.fresh }
+    {
+        self.fresh.as_slice()
+    }
+
+    /// Both, the latter of its own.
     pub fn into_parts(self) -> (&'a [Element], Elements)
         ensures { result.0.now ++ result.1 ≡ listed self.entry }
     {

@@ -1,11 +1,11 @@
 // The file at an index.
-ghost use Rattle.std.specs.Prelude.{◌≡◌, ◌∷◌, ◌++◌, None, map, flat_map, IfOk, OnOk, option_map, option_copied, option_and_then, find, unwrap_or, []};
+ghost use Rattle.std.specs.Prelude.{◌≡◌, ◌∷◌, ◌++◌, None, map, flat_map, IfOk, OnOk, option_map, option_copied, option_and_then, find, []};
 ghost use Rattle.compact_values.specs.SameIds.{same_cell};
-ghost use Rattle.doc_model.specs.Files.{current_revision, root_chain, group_objects, revision_objects, objects_of, own_bytes, root_object, file};
-ghost use Rattle.doc_model.specs.Finding.{first, said, as_cell};
+ghost use Rattle.doc_model.specs.Files.{current_revision, root_chain, group_objects, own_bytes, root_object, file};
+ghost use Rattle.doc_model.specs.Finding.{said, as_cell};
 ghost use Rattle.doc_model.specs.Reached.{absent, chain, longest};
 ghost use Rattle.plain_core.specs.Cataloging.{listed};
-ghost use Rattle.plain_core.specs.Filing.{IsFiled, without_file, stored, stored_objects, stored_file};
+ghost use Rattle.plain_core.specs.Filing.{IsFiled, without_file, stored, objects_with_bytes, file_with_bytes};
 ghost use Rattle.plain_core.specs.Sayings.{seen_mappings, seen_manifest};
 
 use crate::catalog::Catalog;
@@ -121,7 +121,7 @@ fn file_of_chain(
     catalog: &Catalog<'_>,
     manifests: &[Manifest<'_>],
 ) -> Result<Filed, NoMemory>
-    ensures { IfOk result (λ filed. IsFiled filed (stored_file (listed catalog.now) (map seen_manifest manifests.now))) }
+    ensures { IfOk result (λ filed. IsFiled filed (file_with_bytes (listed catalog.now) (map seen_manifest manifests.now))) }
 {
     let Some(root) = root_object(manifests) else {
         return Ok(Filed::Undefined);
@@ -165,7 +165,7 @@ fn objects_of(
     catalog: &Catalog<'_>,
     manifests: &[Manifest<'_>],
 ) -> Result<ObjectMap, NoMemory>
-    ensures { IfOk result (λ all. all ≡ stored_objects (listed catalog.now) (map seen_manifest manifests.now)) }
+    ensures { IfOk result (λ all. all ≡ objects_with_bytes (listed catalog.now) (map seen_manifest manifests.now)) }
 {
     let mut all = ObjectMap::new(alloc);
     for manifest in manifests {

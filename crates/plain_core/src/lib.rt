@@ -6,6 +6,7 @@
 //! - `naming`: what an index names
 //! - `pull`: what a client lacks
 //! - `file`: the file at an index
+//! - `reaching`: what is reached from an index
 //! - `plain`: the document, its plans and what settles them
 #![tactic(auto)]
 
@@ -16,6 +17,7 @@ mod content;
 mod file;
 mod naming;
 mod plain;
+mod plan_lock;
 mod plan_put;
 mod pull;
 mod put;

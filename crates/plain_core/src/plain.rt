@@ -35,6 +35,10 @@ pub enum Change {
     Draw {
         drawn: u64,
     },
+    /// This is then the lock.
+    Lock {
+        lock: LockRecord,
+    },
     /// These are then the uploads that aren't complete.
     Keep {
         parts: Parts,
@@ -54,7 +58,7 @@ impl PlainCore {
     ghost use Rattle.doc_model.specs.Sound.{Sound};
     ghost use Rattle.doc_model.specs.Turns.{reading};
     ghost use Rattle.plain_core.specs.Keeping.{doc_of, has_room, leads_to, planned_of};
-    ghost use Rattle.plain_core.specs.declared.plain.Change.TheVariants.{Commit};
+    ghost use Rattle.plain_core.specs.declared.plain.Change.TheVariants as changes;
 
     /// An empty document.
     pub fn new(alloc: Global, guid: Guid) -> Result<PlainCore, NoMemory>
@@ -142,10 +146,10 @@ impl PlainCore {
 
     // Adds what was committed, for which there is room.
     fn add(&mut self, fresh: Vec<Element>, commit: Commit, parts: Parts)
-        requires room { has_room self.old (Commit fresh commit parts) ≡ true }
+        requires room { has_room self.old (changes.Commit fresh commit parts) ≡ true }
         requires few { all_few fresh.items ≡ true }
         requires few_pending { few_parts parts ≡ true }
-        ensures { Some (doc_of self.new) ≡ leads_to (doc_of self.old) (Commit fresh commit parts) }
+        ensures { Some (doc_of self.new) ≡ leads_to (doc_of self.old) (changes.Commit fresh commit parts) }
     {
         let mut fresh = fresh;
         match self.added.append(&mut fresh) {
@@ -200,7 +204,7 @@ impl Core for PlainCore {
             Sub::Pull { knowledge } => self.plan_pull(knowledge.ranges.as_slice()),
             Sub::Put { put } => self.plan_put(call.moment, &call.user, put),
             Sub::Draw { count } => Ok(self.plan_draw(*count)),
-            Sub::Lock { .. } => Err(NoMemory),
+            Sub::Lock { step } => self.plan_lock(call.moment, step),
         }
     }
 
@@ -213,6 +217,7 @@ impl Core for PlainCore {
         match fresh {
             Change::Nothing => {}
             Change::Draw { drawn } => self.drawn = drawn,
+            Change::Lock { lock } => self.lock = lock,
             Change::Keep { parts } => self.parts = parts,
             Change::Commit {
                 fresh,

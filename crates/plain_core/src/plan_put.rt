@@ -5,7 +5,7 @@ ghost use Rattle.doc_model.specs.Puts.{put, part_refusal, commit_refusal, kept, 
 ghost use Rattle.doc_model.specs.Turns.{unless};
 ghost use Rattle.plain_core.specs.Cataloging.{listed};
 ghost use Rattle.plain_core.specs.Keeping.{doc_of, leads_to, planned_of};
-ghost use Rattle.plain_core.specs.Uploading.{sent};
+ghost use Rattle.plain_core.specs.Uploading.{elements_of};
 ghost use Rattle.plain_core.specs.Weighing.{all_few, few_parts};
 
 use crate::catalog::Catalog;
@@ -24,43 +24,43 @@ impl PlainCore {
         &mut self,
         moment: u64,
         user: &Text,
-        put: &Put,
+        upload: &Put,
     ) -> Result<Plan<Change>, NoMemory>
         requires moment { moment < 2 ^ 40 }
-        requires few { all_few put.now.elements ≡ true }
+        requires few { all_few upload.now.elements ≡ true }
         ensures stays { doc_of self.new ≡ doc_of self.old }
-        ensures planned { IfOk result (λ p. IsPlanned (put (doc_of self.old) moment user.now put.now) p (planned_of self.new p.fresh)) }
+        ensures planned { IfOk result (λ p. IsPlanned (put (doc_of self.old) moment user.now upload.now) p (planned_of self.new p.fresh)) }
     {
-        let plan = if put.partial && !put.last {
-            self.plan_part(moment, put)?
+        let plan = if upload.partial && !upload.last {
+            self.plan_part(moment, upload)?
         } else {
-            self.plan_commit(moment, user, put)?
+            self.plan_commit(moment, user, upload)?
         };
         self.make_room(&plan.fresh)?;
         Ok(plan)
     }
 
     // The elements that an upload speaks of.
-    fn sent<'a>(&'a self, put: &'a Put) -> Sent<'a>
-        ensures { sent result ≡ sent_to (doc_of self.now) put.now }
+    fn sent<'a>(&'a self, upload: &'a Put) -> Sent<'a>
+        ensures { elements_of result ≡ sent_to (doc_of self.now) upload.now }
     {
         Sent {
-            pending: pending(self.parts.as_slice(), put.index),
-            package: put.elements.as_slice(),
+            pending: pending(self.parts.as_slice(), upload.index),
+            package: upload.elements.as_slice(),
         }
     }
 
     // Plans a part of an upload that isn't the last one.
-    fn plan_part(&self, moment: u64, put: &Put) -> Result<Plan<Change>, NoMemory>
+    fn plan_part(&self, moment: u64, upload: &Put) -> Result<Plan<Change>, NoMemory>
         requires moment { moment < 2 ^ 40 }
-        requires few { all_few put.now.elements ≡ true }
-        ensures { IfOk result (λ p. IsPlanned (unless (part_refusal (doc_of self.now) moment put.now) (doc_of self.now) (kept (doc_of self.now) moment put.now)) p (leads_to (doc_of self.now) p.fresh)) }
+        requires few { all_few upload.now.elements ≡ true }
+        ensures { IfOk result (λ p. IsPlanned (unless (part_refusal (doc_of self.now) moment upload.now) (doc_of self.now) (kept (doc_of self.now) moment upload.now)) p (leads_to (doc_of self.now) p.fresh)) }
     {
         let alloc = self.alloc;
-        let sent = self.sent(put);
+        let sent = self.sent(upload);
         let catalog = sent.grown(alloc, self.added.as_slice())?;
-        let others = other_parts(alloc, self.parts.as_slice(), moment, put.index)?;
-        let locked = !allows(&self.lock, moment, put.carried);
+        let others = other_parts(alloc, self.parts.as_slice(), moment, upload.index)?;
+        let locked = !allows(&self.lock, moment, upload.carried);
         let invalid = sent.has_invalid(self.guid, self.drawn, &catalog);
         let full = sent.is_too_much(others.as_slice());
         match entry_refusal(locked, invalid, full) {
@@ -69,7 +69,7 @@ impl PlainCore {
                 let elements = sent.copied(alloc)?;
                 let mut parts = others;
                 parts.push(Part {
-                    index: put.index,
+                    index: upload.index,
                     elements,
                     moment,
                 })?;
@@ -92,44 +92,44 @@ impl PlainCore {
         sent: &Sent<'_>,
         catalog: &Catalog<'_>,
         moment: u64,
-        put: &Put,
+        upload: &Put,
     ) -> Result<Option<Code>, NoMemory>
-        requires sent { sent sent.now ≡ sent_to (doc_of self.now) put.now }
-        requires catalog { listed catalog.now ≡ added_by (doc_of self.now) put.now }
+        requires sent { elements_of sent.now ≡ sent_to (doc_of self.now) upload.now }
+        requires catalog { listed catalog.now ≡ added_by (doc_of self.now) upload.now }
         requires few { all_few (listed catalog.now) ≡ true }
-        ensures { IfOk result (λ r. r ≡ commit_refusal (doc_of self.now) moment put.now) }
+        ensures { IfOk result (λ r. r ≡ commit_refusal (doc_of self.now) moment upload.now) }
     {
-        let locked = !allows(&self.lock, moment, put.carried);
+        let locked = !allows(&self.lock, moment, upload.carried);
         let invalid = sent.has_invalid(self.guid, self.drawn, catalog);
         let full = too_much_added(catalog);
         match entry_refusal(locked, invalid, full) {
             Some(code) => return Ok(Some(code)),
             None => {}
         }
-        match version_refusal(self.commits.as_slice(), put) {
+        match version_refusal(self.commits.as_slice(), upload) {
             Some(code) => return Ok(Some(code)),
             None => {}
         }
-        content_refusal(self.alloc, catalog, put.index)
+        content_refusal(self.alloc, catalog, upload.index)
     }
 
     // Plans a version.
-    fn plan_commit(&self, moment: u64, user: &Text, put: &Put) -> Result<Plan<Change>, NoMemory>
+    fn plan_commit(&self, moment: u64, user: &Text, upload: &Put) -> Result<Plan<Change>, NoMemory>
         requires moment { moment < 2 ^ 40 }
-        requires few { all_few put.now.elements ≡ true }
-        ensures { IfOk result (λ p. IsPlanned (unless (commit_refusal (doc_of self.now) moment put.now) (doc_of self.now) (committed (doc_of self.now) moment user.now put.now)) p (leads_to (doc_of self.now) p.fresh)) }
+        requires few { all_few upload.now.elements ≡ true }
+        ensures { IfOk result (λ p. IsPlanned (unless (commit_refusal (doc_of self.now) moment upload.now) (doc_of self.now) (committed (doc_of self.now) moment user.now upload.now)) p (leads_to (doc_of self.now) p.fresh)) }
     {
         let alloc = self.alloc;
-        let sent = self.sent(put);
+        let sent = self.sent(upload);
         let catalog = sent.grown(alloc, self.added.as_slice())?;
-        match self.commit_refusal(&sent, &catalog, moment, put)? {
+        match self.commit_refusal(&sent, &catalog, moment, upload)? {
             Some(code) => Ok(self.read(Reply::Refused { code })),
             None => {
                 let ranges = sent.serials(alloc, self.guid, &catalog)?;
                 let (_, fresh) = catalog.into_parts();
-                let parts = other_parts(alloc, self.parts.as_slice(), moment, put.index)?;
+                let parts = other_parts(alloc, self.parts.as_slice(), moment, upload.index)?;
                 let commit = Commit {
-                    index: put.index,
+                    index: upload.index,
                     moment,
                     user: user.copied(alloc)?,
                 };

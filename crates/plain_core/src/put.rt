@@ -31,17 +31,18 @@ const MOST_PARTS: usize = 8;
 const MOST_PARTS_WEIGHT: u128 = 64 * 1_048_576;
 
 /// What an upload speaks of: the elements that were kept for it, and then those of its package.
+#[derive(Clone, Copy)]
 pub struct Sent<'a> {
     pub pending: &'a [Element],
     pub package: &'a [Element],
 }
 
 impl Sent<'_> {
-    ghost use Rattle.plain_core.specs.Uploading.{sent};
+    ghost use Rattle.plain_core.specs.Uploading.{elements_of};
 
     /// The elements that a document has with it.
     pub fn grown<'b>(&self, alloc: Global, added: &'b [Element]) -> Result<Catalog<'b>, NoMemory>
-        ensures { IfOk result (λ c. listed c ≡ grown added.now (sent self.now)) }
+        ensures { IfOk result (λ c. listed c ≡ grown added.now (elements_of self.now)) }
     {
         let mut catalog = Catalog::new(alloc, added)?;
         catalog.grow(alloc, self.pending)?;
@@ -51,7 +52,7 @@ impl Sent<'_> {
 
     /// Its elements, copied.
     pub fn copied(&self, alloc: Global) -> Result<Elements, NoMemory>
-        ensures { IfOk result (λ es. es ≡ sent self.now) }
+        ensures { IfOk result (λ es. es ≡ elements_of self.now) }
     {
         let mut elements = Seq::copied_from(alloc, self.pending)?;
         elements.append(Seq::copied_from(alloc, self.package)?)?;
@@ -60,7 +61,7 @@ impl Sent<'_> {
 
     /// Whether an element of it may not be added to a document that then has these.
     pub fn has_invalid(&self, guid: Guid, drawn: u64, catalog: &Catalog<'_>) -> bool
-        ensures { result ≡ list_any (is_invalid guid drawn (listed catalog.now)) (sent self.now) }
+        ensures { result ≡ list_any (is_invalid guid drawn (listed catalog.now)) (elements_of self.now) }
     {
         any_invalid(guid, drawn, catalog, self.pending)
             || any_invalid(guid, drawn, catalog, self.package)
@@ -68,18 +69,18 @@ impl Sent<'_> {
 
     /// Whether it is too much beside the other uploads that aren't complete.
     pub fn is_too_much(&self, others: &[Part]) -> bool
-        requires few { all_few (sent self.now) ≡ true }
+        requires few { all_few (elements_of self.now) ≡ true }
         requires few_parts { list_all (λ p. all_few p.elements) others.now ≡ true }
-        ensures { result ≡ too_many_parts others.now (sent self.now) }
+        ensures { result ≡ too_many_parts others.now (elements_of self.now) }
     {
         others.len() >= MOST_PARTS || self.outweighs(others)
     }
 
     // Whether it weighs too much with these.
     fn outweighs(&self, others: &[Part]) -> bool
-        requires few { all_few (sent self.now) ≡ true }
+        requires few { all_few (elements_of self.now) ≡ true }
         requires few_parts { list_all (λ p. all_few p.elements) others.now ≡ true }
-        ensures { result ≡ nat_lt most_parts_weight (sum_by part_weight others.now + weight_of (sent self.now)) }
+        ensures { result ≡ nat_lt most_parts_weight (sum_by part_weight others.now + weight_of (elements_of self.now)) }
     {
         match weigh_parts(others, MOST_PARTS_WEIGHT) {
             None => true,
@@ -98,11 +99,10 @@ impl Sent<'_> {
         catalog: &Catalog<'_>,
     ) -> Result<Ranges, NoMemory>
         requires { length (listed catalog.now) ≤ most_added }
-        ensures { IfOk result (λ ranges. ranges ≡ ranges_of guid (serials_of (listed catalog.now) (sent self.now))) }
+        ensures { IfOk result (λ ranges. ranges ≡ ranges_of guid (serials_of (listed catalog.now) (elements_of self.now))) }
     {
         let ids = ids_of(alloc, self.pending, self.package)?;
-        let (added, fresh) = catalog.slices();
-        let serials = serials_in(alloc, &ids, added, fresh)?;
+        let serials = serials_in(alloc, &ids, catalog.added(), catalog.fresh())?;
         ranges_of(alloc, guid, serials.as_slice())
     }
 }
@@ -112,7 +112,8 @@ pub fn too_much_added(catalog: &Catalog<'_>) -> bool
     requires { all_few (listed catalog.now) ≡ true }
     ensures { result ≡ too_much_added (listed catalog.now) }
 {
-    let (added, fresh) = catalog.slices();
+    let added = catalog.added();
+    let fresh = catalog.fresh();
     if added.len() > MOST_ADDED || fresh.len() > MOST_ADDED - added.len() {
         return true;
     }

@@ -1,12 +1,12 @@
 // What is reached from an index.
-ghost use Rattle.std.specs.Prelude.{◌≡◌, ◌+◌, ◌<◌, true, nat_lt, map, filter, IfOk};
-ghost use Rattle.std.specs.List.{list_all};
+ghost use Rattle.std.specs.Prelude.{◌≡◌, ◌+◌, ◌<◌, true, nat_lt, map, IfOk};
 ghost use Rattle.std.specs.Option.{MatchOption};
 ghost use Rattle.doc_model.specs.Limits.{most_reached_weight};
-ghost use Rattle.doc_model.specs.Reached.{reached_from, is_among};
+ghost use Rattle.doc_model.specs.Reached.{reached_from};
 ghost use Rattle.doc_model.specs.Weights.{weight_of};
 ghost use Rattle.plain_core.specs.Cataloging.{listed};
-ghost use Rattle.plain_core.specs.Reaching.{is_short, among};
+ghost use Rattle.plain_core.specs.Reaching.{among};
+ghost use Rattle.plain_core.specs.Weighing.{all_few};
 
 use crate::catalog::Catalog;
 use crate::naming::names;
@@ -19,7 +19,7 @@ const HEAVIEST: u128 = 25_165_824;
 
 /// Whether the elements that are reached from the index weigh more than 24 MiB.
 pub fn is_heavy(alloc: Global, catalog: &Catalog<'_>, index: ExGuid) -> Result<bool, NoMemory>
-    requires { list_all is_short (listed catalog.now) ≡ true }
+    requires { all_few (listed catalog.now) ≡ true }
     ensures { IfOk result (λ heavy. heavy ≡ nat_lt most_reached_weight (weight_of (reached_from (listed catalog.now) index))) }
 {
     let all = names(alloc, catalog, index)?;
@@ -40,8 +40,8 @@ fn ids_of(alloc: Global, names: &[Name]) -> Result<IdIndex, NoMemory>
 
 // Whether those of both together whose ids are named weigh more.
 fn weigh_more(named: &IdIndex, front: &[Element], back: &[Element], limit: u128) -> bool
-    requires front { list_all is_short front.now ≡ true }
-    requires back { list_all is_short back.now ≡ true }
+    requires front { all_few front.now ≡ true }
+    requires back { all_few back.now ≡ true }
     ensures { result ≡ nat_lt limit (weight_of (among named.now front.now) + weight_of (among named.now back.now)) }
 {
     match weigh_named(named, front, limit) {
@@ -52,7 +52,7 @@ fn weigh_more(named: &IdIndex, front: &[Element], back: &[Element], limit: u128)
 
 // What is left of a limit after those of the elements whose ids are named, None where they weigh more.
 fn weigh_named(named: &IdIndex, elements: &[Element], limit: u128) -> Option<u128>
-    requires { list_all is_short elements.now ≡ true }
+    requires { all_few elements.now ≡ true }
     ensures { MatchOption result (limit < weight_of (among named.now elements.now)) (λ left. left + weight_of (among named.now elements.now) ≡ limit) }
 {
     let mut left = limit;

@@ -1,4 +1,4 @@
-use Rattle.std.proofs.Common.{◌≡◌, arith}
+use Rattle.std.proofs.Common.{arith}
 use Rattle.plain_core.specs.Cataloging.{listed}
 use Rattle.plain_core.proofs.ChainSteps.{ends-null, ends-over, ends-none, ends-step}
 use Rattle.plain_core.proofs.chains.ends.Goals as goal

@@ -1,4 +1,4 @@
-use Rattle.std.proofs.Common.{◌≡◌, ◌++◌, ◌∷◌, [], ◌∙◌, sym, ap, map, None, Some, option_map, arith}
+use Rattle.std.proofs.Common.{◌∷◌, [], ◌∙◌, ap, map, arith}
 use Rattle.std.proofs.lemmas.List.{map-append}
 use Rattle.plain_core.specs.Cataloging.{listed}
 use Rattle.plain_core.specs.Sayings.{seen_manifest}

@@ -1,4 +1,4 @@
-use Rattle.std.proofs.Common.{◌≡◌, map}
+use Rattle.std.proofs.Common.{map}
 use Rattle.plain_core.specs.Cataloging.{listed}
 use Rattle.plain_core.specs.Sayings.{seen_manifest}
 use Rattle.plain_core.proofs.FiledAnswers.{answered-fault}

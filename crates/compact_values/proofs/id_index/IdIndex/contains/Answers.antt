@@ -1,4 +1,4 @@
-use Rattle.std.proofs.Common.{◌≡◌, ◌∙◌, ap, is_some}
+use Rattle.std.proofs.Common.{◌∙◌, ap, is_some}
 use Rattle.compact_values.proofs.IdPlacing.{place-among}
 use Rattle.compact_values.proofs.id_index.IdIndex.contains.Goals as goal
 

@@ -1,4 +1,4 @@
-use Rattle.std.proofs.Common.{◌≡◌, ◌∙◌, ap}
+use Rattle.std.proofs.Common.{◌∙◌, ap}
 use Rattle.std.specs.HashMap.{get}
 use Rattle.compact_values.specs.IdPlaces.{place_of, same_key}
 use Rattle.compact_values.proofs.id_index.IdIndex.place.Goals as goal

@@ -1,5 +1,6 @@
-use Rattle.std.proofs.Common.{◌≡◌, ◌∙◌, ap}
+use Rattle.std.proofs.Common.{◌≡◌, ◌∙◌, ap, cond, None}
 use Rattle.doc_model.specs.Pulls.{pulled}
+use Rattle.plain_core.specs.Keeping.{doc_of, leads_to}
 use Rattle.plain_core.proofs.plain.PlainCore.plan_pull.Goals as goal
 
 pub returns : goal.returns
@@ -7,9 +8,9 @@ returns c =
     let now = c.args.self.now in
     let known = c.args.known.now in
     record {
-      moved = c.read.ensures.moved;
-      reply = c.read.ensures.reply ∙ c.in_ok-reply.ensures
+      moved = c.read.ensures.planned.moved;
+      reply = c.read.ensures.planned.reply ∙ c.in_ok-reply.ensures
           ∙ ap (λ added. pulled now.guid added c.as_slice-commits.result.now known) c.as_slice-added.ensures.value
           ∙ ap (λ commits. pulled now.guid now.added.items commits known) c.as_slice-commits.ensures.value;
-      doc = c.read.ensures.doc;
+      doc = ap (λ b. cond b (leads_to (doc_of now) c.read.result.fresh) None) c.read.ensures.room ∙ c.read.ensures.planned.doc;
     }

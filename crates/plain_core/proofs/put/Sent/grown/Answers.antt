@@ -3,7 +3,7 @@ use Rattle.std.proofs.lemmas.List.Sums.{fold-append}
 use Rattle.doc_model.specs.Finding.{with_new}
 use Rattle.doc_model.specs.Puts.{same_ids}
 use Rattle.plain_core.specs.Cataloging.{listed}
-use Rattle.plain_core.specs.Uploading.{sent}
+use Rattle.plain_core.specs.Uploading.{elements_of}
 use Rattle.plain_core.proofs.Growing.{grows}
 use Rattle.plain_core.proofs.put.Sent.grown.Goals as goal
 
@@ -14,4 +14,4 @@ returns c =
     c.in_ok-grow-2.ensures
     ∙ ap (λ known. fold (with_new same_ids) known sent_now) (c.in_ok-grow.ensures ∙ ap (λ known. fold (with_new same_ids) known pending) c.in_ok-catalog.ensures)
     ∙ sym (fold-append (with_new same_ids) c.args.added.now pending sent_now)
-    ∙ grows c.args.added.now (sent c.args.self.now)
+    ∙ grows c.args.added.now (elements_of c.args.self.now)
