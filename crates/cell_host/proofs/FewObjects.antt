@@ -111,21 +111,42 @@ kids t = (out-Tree t).children
 group_objects : (input : List ℕ) (t : Tree) (vs : List (Rattle.doc_model.specs.declared.element.Object.Object)) → SaysGroup input t vs → 2 + 2 * length vs ≤ total (kids t)
 group_objects input t vs g =
     let r = pair_length (λ d e o. SaysContent input d e o o.content) (declarations_in g.declarations) (data_in g.data_of) vs g.pairs in
-    omega (arith, r.0, r.1, length_total (declarations_in g.declarations), length_total (data_in g.data_of),
-      total_filter (λ c. is_kind 0x18 c || is_kind 0x05 c) (kids g.declarations), total_filter (λ c. is_kind 0x16 c || is_kind 0x1C c) (kids g.data_of),
-      total_children g.declarations, total_children g.data_of, one_total 0x1D t g.declarations g.one_declarations, one_total 0x1E t g.data_of g.one_data,
-      apart (is_kind 0x1D) (is_kind 0x1E) (other_kind 0x1D 0x1E (λ e. omega (arith, e))) (kids t))
+    omega (
+      arith,
+      r.0,
+      r.1,
+      length_total (declarations_in g.declarations),
+      length_total (data_in g.data_of),
+      total_filter (λ c. is_kind 0x18 c || is_kind 0x05 c) (kids g.declarations),
+      total_filter (λ c. is_kind 0x16 c || is_kind 0x1C c) (kids g.data_of),
+      total_children g.declarations,
+      total_children g.data_of,
+      one_total 0x1D t g.declarations g.one_declarations,
+      one_total 0x1E t g.data_of g.one_data,
+      apart (is_kind 0x1D) (is_kind 0x1E) (other_kind 0x1D 0x1E (λ e. omega (arith, e))) (kids t),
+    )
 
 body_objects : (input : List ℕ) (t : Tree) (kind : ℕ) (body : Body) → SaysBody input t kind body → objects_in body ≤ total (kids t)
 body_objects input t kind (Index manifests cells revisions) h =
-    omega (arith, any_total 0x11 (ManifestMapping input) t manifests h.1, any_total 0x0E (CellMapping input) t cells h.2, any_total 0x0D (RevisionMapping input) t revisions h.3,
-      apart_three (is_kind 0x11) (is_kind 0x0E) (is_kind 0x0D) (other_kind 0x11 0x0E (λ e. omega (arith, e))) (other_kind 0x11 0x0D (λ e. omega (arith, e))) (other_kind 0x0E 0x0D (λ e. omega (arith, e))) (kids t))
+    omega (
+      arith,
+      any_total 0x11 (ManifestMapping input) t manifests h.1,
+      any_total 0x0E (CellMapping input) t cells h.2,
+      any_total 0x0D (RevisionMapping input) t revisions h.3,
+      apart_three (is_kind 0x11) (is_kind 0x0E) (is_kind 0x0D) (other_kind 0x11 0x0E (λ e. omega (arith, e))) (other_kind 0x11 0x0D (λ e. omega (arith, e))) (other_kind 0x0E 0x0D (λ e. omega (arith, e))) (kids t),
+    )
 body_objects input t kind (Storage schema roots) h =
     omega (arith, one_total 0x0C t h.1.0 h.1.1, some_object h.1.0, any_total 0x07 (ManifestRoot input) t roots h.2, apart (is_kind 0x0C) (is_kind 0x07) (other_kind 0x0C 0x07 (λ e. omega (arith, e))) (kids t))
 body_objects input t kind (Cell current) h = omega (arith, one_total 0x0B t h.1.0 h.1.1, some_object h.1.0, total_filter (is_kind 0x0B) (kids t))
 body_objects input t kind (Revision id base roots groups) h =
-    omega (arith, one_total 0x1A t h.1.0 h.1.1, some_object h.1.0, any_total 0x0A (IsRevisionRoot input) t roots h.2, any_total 0x19 (GroupReference input) t groups h.3,
-      apart_three (is_kind 0x1A) (is_kind 0x0A) (is_kind 0x19) (other_kind 0x1A 0x0A (λ e. omega (arith, e))) (other_kind 0x1A 0x19 (λ e. omega (arith, e))) (other_kind 0x0A 0x19 (λ e. omega (arith, e))) (kids t))
+    omega (
+      arith,
+      one_total 0x1A t h.1.0 h.1.1,
+      some_object h.1.0,
+      any_total 0x0A (IsRevisionRoot input) t roots h.2,
+      any_total 0x19 (GroupReference input) t groups h.3,
+      apart_three (is_kind 0x1A) (is_kind 0x0A) (is_kind 0x19) (other_kind 0x1A 0x0A (λ e. omega (arith, e))) (other_kind 0x1A 0x19 (λ e. omega (arith, e))) (other_kind 0x0A 0x19 (λ e. omega (arith, e))) (kids t),
+    )
 body_objects input t kind (Group vs) h = group_objects input t vs h.1
 body_objects input t kind (Blob bytes) h = omega (arith, one_total 0x02 t h.1.0 h.1.1, some_object h.1.0, total_filter (is_kind 0x02) (kids t))
 
@@ -145,6 +166,6 @@ pub few_objects : (bytes : List ℕ) (r : CellRequest) → IsRequest bytes r →
 few_objects bytes r q =
     let pack = q.form.one_package.0 in
     let all : total (children_of 0x01 pack) ≤ 262144 =
-      omega (arith, total_filter (is_kind 0x01) (kids pack), total_children pack, one_total 0x15 q.tree pack q.form.one_package.1, total_filter (is_kind 0x15) (kids q.tree), total_children q.tree, q.stands.few)
+    omega (arith, total_filter (is_kind 0x01) (kids pack), total_children pack, one_total 0x15 q.tree pack q.form.one_package.1, total_filter (is_kind 0x15) (kids q.tree), total_children q.tree, q.stands.few)
     in
     All-from_recursion (λ e. objects_written e ≤ 262144) r.elements (few_each bytes 262144 (children_of 0x01 pack) r.elements q.form.one_package.2.1 all)

@@ -44,7 +44,7 @@ part_form doc moment p = unless_form (part_refusal doc moment p) doc (kept doc m
 commit_form : (doc : Doc) (moment : ℕ) (user : List ℕ) (p : Put) → HasForm (Answered (unless (commit_refusal doc moment p) doc (committed doc moment user p)).reply)
 commit_form doc moment user p =
     unless_form (commit_refusal doc moment p) doc (committed doc moment user p)
-      (first_numbered (commit_reasons doc moment p (sent_to doc p) (added_by doc p)) (refl, (refl, (refl, (refl, (refl, (refl, (refl, (refl, tt))))))))) tt
+    (first_numbered (commit_reasons doc moment p (sent_to doc p) (added_by doc p)) (refl, (refl, (refl, (refl, (refl, (refl, (refl, (refl, tt))))))))) tt
 
 put_form : (doc : Doc) (moment : ℕ) (user : List ℕ) (p : Put) → HasForm (Answered (put doc moment user p).reply)
 put_form doc moment user p =
@@ -71,4 +71,4 @@ pub answers_form : (moment : ℕ) (elements : List Element) (doc : Doc) (subs : 
 answers_form moment elements doc [] = All-nil (λ (a : Answer). HasForm a.submitted)
 answers_form moment elements doc (sub ∷ subs) =
     All-cons (λ (a : Answer). HasForm a.submitted) (answer_to sub (turn moment elements doc sub)) (answers_of moment elements (turn moment elements doc sub).doc subs)
-      (kind_form moment elements doc sub.what) (answers_form moment elements (turn moment elements doc sub).doc subs)
+    (kind_form moment elements doc sub.what) (answers_form moment elements (turn moment elements doc sub).doc subs)
