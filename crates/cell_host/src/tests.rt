@@ -347,10 +347,7 @@ fn the_empty_document_is_pulled(rt: HostRuntime) -> Result<(), Fail> {
         0x0E, 0x02, 0x06, 0x00, 0x03, 0x05, 0x00, 0xFA, 0x02, 0x04, 0x00, 0x00, 0x00,
     ];
     let alloc = rt.alloc();
-    let pulled = joined(
-        alloc,
-        &[start, &NO_KNOWLEDGE],
-    )?;
+    let pulled = joined(alloc, &[start, &NO_KNOWLEDGE])?;
     assert!(rt; is_answered(alloc, pull, &pulled)?);
     Ok(())
 }
@@ -397,32 +394,30 @@ fn another_kind_is_not_supported(rt: HostRuntime) -> Result<(), Fail> {
     Ok(())
 }
 
-#[test]
-fn a_put_goes_by_its_flags(rt: HostRuntime) -> Result<(), Fail> {
-    let alloc = rt.alloc();
-    // the null index; the number 0 of the GUID 0 is expected
-    let expecting: &[u8] = &[
+/// Whether a put with these flags is answered so: its index is null, and it expects the number 0 of the GUID 0.
+fn put_is_answered(alloc: Global, flags: u8, sub_response: &[u8]) -> Result<bool, Fail> {
+    let fields: [u8; 22] = [
         0xD2, 0x02, 0x26, 0x00, 0x00, 0x04, 0x00, 0x00, 0x00, 0x00, 0x00, 0x00, 0x00, 0x00, 0x00,
         0x00, 0x00, 0x00, 0x00, 0x00, 0x00, 0x00,
     ];
-    // by itself, with the flags that are ignored, and as the last part
-    for flags in [0x00_u8, 0x78, 0x06] {
-        let put = joined(alloc, &[&PUT, expecting, &[flags], &SUB_END])?;
-        assert!(rt; is_answered(alloc, &put, &INCOHERENT)?);
-    }
+    let put = joined(alloc, &[&PUT, &fields, &[flags], &SUB_END])?;
+    is_answered(alloc, &put, sub_response)
+}
+
+#[test]
+fn a_put_goes_by_its_flags(rt: HostRuntime) -> Result<(), Fail> {
+    let alloc = rt.alloc();
+    // by itself, with all flags that are ignored, and as the last part
+    assert!(rt; put_is_answered(alloc, 0x00, &INCOHERENT)?);
+    assert!(rt; put_is_answered(alloc, 0x78, &INCOHERENT)?);
+    assert!(rt; put_is_answered(alloc, 0x06, &INCOHERENT)?);
     // the expected index is implied null, or doesn't matter
-    for flags in [0x01_u8, 0x80] {
-        let put = joined(alloc, &[&PUT, expecting, &[flags], &SUB_END])?;
-        assert!(rt; is_answered(alloc, &put, &NOT_FOUND)?);
-    }
+    assert!(rt; put_is_answered(alloc, 0x01, &NOT_FOUND)?);
+    assert!(rt; put_is_answered(alloc, 0x80, &NOT_FOUND)?);
     // a part is kept
-    let put = joined(alloc, &[&PUT, expecting, &[0x02], &SUB_END])?;
     let start: &[u8] = &[0x0E, 0x02, 0x06, 0x00, 0x03, 0x0B, 0x00];
-    let kept = joined(
-        alloc,
-        &[start, &NO_KNOWLEDGE],
-    )?;
-    assert!(rt; is_answered(alloc, &put, &kept)?);
+    let kept = joined(alloc, &[start, &NO_KNOWLEDGE])?;
+    assert!(rt; put_is_answered(alloc, 0x02, &kept)?);
     Ok(())
 }
 
