@@ -90,3 +90,7 @@ module _ (test : Element → Bool) where
   all-joined known (e ∷ es) h t =
       let split = head (test e) (list_all test es) t in
       all-joined (with_new same_ids known e) es (one e (list_any (same_ids e) known) known h split.0) split.1
+
+-- and of all that is there with what is new of an upload
+pub all-grown : (test : Element → Bool) (added es : List Element) → list_all test added ≡ true → list_all test es ≡ true → list_all test (grown added es) ≡ true
+all-grown test added es h t = ap (list_all test) (sym (grows added es)) ∙ all-joined test added es h t

@@ -47,7 +47,8 @@ impl<'a> Catalog<'a> {
 
     /// These elements, with none behind them.
     pub fn new(alloc: Global, added: &'a [Element]) -> Result<Catalog<'a>, NoMemory>
-        ensures { IfOk result (λ c. listed c ≡ added.now) }
+        ensures listed { IfOk result (λ c. listed c ≡ added.now) }
+        ensures added { IfOk result (λ c. c.added.now ≡ added.now) }
     {
         let index = index_of(alloc, added)?;
         Ok(Catalog {
@@ -76,7 +77,8 @@ impl<'a> Catalog<'a> {
 
     /// Adds the element at the end. Without memory it is dropped.
     fn push(&mut self, element: Element) -> Result<(), NoMemory>
-        ensures { OnOk result (listed self.new ≡ listed self.old ++ element ∷ []) }
+        ensures listed { OnOk result (listed self.new ≡ listed self.old ++ element ∷ []) }
+        ensures added { self.new.added.now ≡ self.old.added.now }
     {
         let id = element.id;
         let before = self.fresh.len();
@@ -92,7 +94,8 @@ impl<'a> Catalog<'a> {
 
     // Adds a copy of the element, unless one with its id is there.
     fn add_new(&mut self, alloc: Global, element: &Element) -> Result<(), NoMemory>
-        ensures { OnOk result (listed self.new ≡ with_new same_ids (listed self.old) element.now) }
+        ensures listed { OnOk result (listed self.new ≡ with_new same_ids (listed self.old) element.now) }
+        ensures added { self.new.added.now ≡ self.old.added.now }
     {
         if self.contains(element.id) {
             Ok(())
@@ -103,7 +106,8 @@ impl<'a> Catalog<'a> {
 
     /// Adds copies of those of the elements whose ids aren't there yet.
     pub fn grow(&mut self, alloc: Global, elements: &[Element]) -> Result<(), NoMemory>
-        ensures { OnOk result (listed self.new ≡ fold (with_new same_ids) (listed self.old) elements.now) }
+        ensures listed { OnOk result (listed self.new ≡ fold (with_new same_ids) (listed self.old) elements.now) }
+        ensures added { self.new.added.now ≡ self.old.added.now }
     {
         for element in elements {
             self.add_new(alloc, element)?;
@@ -125,12 +129,12 @@ impl<'a> Catalog<'a> {
         self.fresh.as_slice()
     }
 
-    /// Both, the latter of its own.
-    pub fn into_parts(self) -> (&'a [Element], Elements)
-        ensures { result.0.now ++ result.1 ≡ listed self.entry }
+    /// What was added behind.
+    pub fn into_fresh(self) -> Elements
+        ensures { result ≡ self.entry.fresh }
     {
-        let Catalog { added, fresh, .. } = self;
-        (added, fresh)
+        let Catalog { fresh, .. } = self;
+        fresh
     }
 
     /// The roots of a storage manifest.

@@ -1,12 +1,14 @@
 // Pulls: what a client lacks, and what it knows then.
 ghost use Rattle.std.specs.Prelude.{◌≡◌, ◌+◌, [], ◌∷◌, ◌++◌, IfOk, map, filter};
-ghost use Rattle.doc_model.specs.Reached.{is_among};
+ghost use Rattle.doc_model.specs.Reached.{is_among, names};
 ghost use Rattle.doc_model.specs.Pulls.{knows, ranges_of, stored_index, named_ids, lacking, known_then, pulled};
 
 use crate::catalog::Catalog;
 use crate::naming::names;
 use compact_values::{Copied, ExGuid, Guid, Ids, NoMemory, Seq};
-use doc_model::{Commit, Element, Knowledge, Numbered, NumberedElement, Range, Ranges, Reply};
+use doc_model::{
+    Commit, Element, Knowledge, Namings, Numbered, NumberedElement, Range, Ranges, Reply,
+};
 use std::alloc::Global;
 
 /// Whether a serial lies in a range of the document.
@@ -58,6 +60,15 @@ pub fn stored_index(commits: &[Commit]) -> ExGuid
     }
 }
 
+// What is named from an index.
+fn names_in(alloc: Global, added: &[Element], index: ExGuid) -> Result<Namings, NoMemory>
+    ensures { IfOk result (λ all. all ≡ names added.now index) }
+{
+    let catalog = Catalog::new(alloc, added)?;
+    let all = names(alloc, &catalog, index)?;
+    Ok(all)
+}
+
 /// The ids that are named from the stored index.
 fn named_ids(alloc: Global, added: &[Element], commits: &[Commit]) -> Result<Ids, NoMemory>
     ensures { IfOk result (λ ids. ids ≡ named_ids added.now commits.now) }
@@ -66,8 +77,7 @@ fn named_ids(alloc: Global, added: &[Element], commits: &[Commit]) -> Result<Ids
     if commits.is_empty() {
         return Ok(ids);
     }
-    let catalog = Catalog::new(alloc, added)?;
-    let all = names(alloc, &catalog, stored_index(commits))?;
+    let all = names_in(alloc, added, stored_index(commits))?;
     for name in all.as_slice() {
         ids.push(name.id)?;
     }

@@ -42,7 +42,8 @@ impl Sent<'_> {
 
     /// The elements that a document has with it.
     pub fn grown<'b>(&self, alloc: Global, added: &'b [Element]) -> Result<Catalog<'b>, NoMemory>
-        ensures { IfOk result (λ c. listed c ≡ grown added.now (elements_of self.now)) }
+        ensures listed { IfOk result (λ c. listed c ≡ grown added.now (elements_of self.now)) }
+        ensures added { IfOk result (λ c. c.added.now ≡ added.now) }
     {
         let mut catalog = Catalog::new(alloc, added)?;
         catalog.grow(alloc, self.pending)?;
