@@ -1,6 +1,4 @@
-ghost use Rattle.std.specs.Prelude.{◌≡◌, ◌<◌, ◌^◌, IfSome, IsSome};
-ghost use Rattle.doc_model.specs.LockSteps.{timeout_of};
-ghost use Rattle.doc_model.specs.Sound.{IsValidSub, IsValidTimeout};
+ghost use Rattle.doc_model.specs.Sound.{IsValidSub};
 
 use super::*;
 use compact_values::{ExGuid, Guid, NoMemory, Seq, Text};
@@ -23,45 +21,46 @@ const A: Guid = Guid { number: 0x30 };
 
 const B: Guid = Guid { number: 0x31 };
 
-/// A call at a moment.
-fn call_at(alloc: Global, moment: u64, sub: Sub) -> Call
-    ensures moment { result.moment ≡ moment }
-    ensures sub { result.sub ≡ sub }
+/// Plans and settles a call.
+fn asked(core: &mut PlainCore, alloc: Global, moment: u32, sub: Sub) -> Result<Reply, NoMemory>
+    requires { IsValidSub sub }
 {
-    Call {
-        moment,
+    let call = Call {
+        moment: u64::from(moment),
         user: Text::new(alloc),
         sub,
-    }
-}
-
-/// Plans and settles a call.
-fn asked(core: &mut PlainCore, alloc: Global, moment: u64, sub: Sub) -> Result<Reply, NoMemory>
-    requires moment { moment < 2 ^ 40 }
-    requires sub { IsValidSub sub }
-{
-    let call = call_at(alloc, moment, sub);
+    };
     let plan = core.plan(&call)?;
     Ok(core.settle(plan))
 }
 
-fn draw(count: u64) -> Sub
-    ensures { IsValidSub result }
-{
-    Sub::Draw { count }
+/// Plans a draw and drops the plan.
+fn plan_draw(core: &mut PlainCore, alloc: Global) -> Result<bool, NoMemory> {
+    let call = Call {
+        moment: 0,
+        user: Text::new(alloc),
+        sub: Sub::Draw { count: 1000 },
+    };
+    let plan = core.plan(&call)?;
+    Ok(plan.moved)
+}
+
+fn access(core: &mut PlainCore, alloc: Global) -> Result<Reply, NoMemory> {
+    asked(core, alloc, 0, Sub::Access)
+}
+
+fn draw(core: &mut PlainCore, alloc: Global, count: u64) -> Result<Reply, NoMemory> {
+    asked(core, alloc, 0, Sub::Draw { count })
 }
 
 /// A pull of a client that knows nothing.
-fn pull(alloc: Global) -> Sub
-    ensures { IsValidSub result }
-{
-    Sub::Pull {
-        knowledge: nothing(alloc),
-    }
+fn pull(core: &mut PlainCore, alloc: Global) -> Result<Reply, NoMemory> {
+    let knowledge = nothing(alloc);
+    asked(core, alloc, 0, Sub::Pull { knowledge })
 }
 
 /// A put without elements, whose index is nowhere.
-fn put(alloc: Global, carried: Option<Guid>) -> Sub
+fn empty_put(alloc: Global, carried: Option<Guid>) -> Sub
     ensures { IsValidSub result }
 {
     let put = Put {
@@ -80,26 +79,39 @@ fn put(alloc: Global, carried: Option<Guid>) -> Sub
     Sub::Put { put }
 }
 
-fn lock(id: Guid, timeout: u64) -> Sub
-    requires { IsValidTimeout timeout }
-    ensures { IsValidSub result }
-{
-    Sub::Lock {
-        step: LockStep::TakeExclusive { id, timeout },
-    }
+fn put(
+    core: &mut PlainCore,
+    alloc: Global,
+    moment: u32,
+    carried: Option<Guid>,
+) -> Result<Reply, NoMemory> {
+    asked(core, alloc, moment, empty_put(alloc, carried))
 }
 
-fn join(client: Guid) -> Sub
-    ensures { IsValidSub result }
-{
-    Sub::Lock {
-        step: LockStep::TakeShared {
-            schema: S,
-            client,
-            timeout: 3600,
-            coauthor: true,
-        },
-    }
+/// Takes the lock L until 1000.
+fn lock(core: &mut PlainCore, alloc: Global) -> Result<Reply, NoMemory> {
+    let step = LockStep::TakeExclusive {
+        id: L,
+        timeout: 1000,
+    };
+    asked(core, alloc, 0, Sub::Lock { step })
+}
+
+fn join(core: &mut PlainCore, alloc: Global, client: Guid) -> Result<Reply, NoMemory> {
+    let step = LockStep::TakeShared {
+        schema: S,
+        client,
+        timeout: 3600,
+        coauthor: true,
+    };
+    asked(core, alloc, 0, Sub::Lock { step })
+}
+
+/// A new document, taken over from its copy.
+fn taken_over(alloc: Global) -> Result<PlainCore, NoMemory> {
+    let core = PlainCore::new(alloc, G)?;
+    let copy = core.copy(alloc)?;
+    PlainCore::from_doc(alloc, copy)
 }
 
 fn nothing(alloc: Global) -> Knowledge {
@@ -145,12 +157,9 @@ fn doc_with(alloc: Global, lock: LockRecord, drawn: u64) -> Doc {
 fn numbers_are_drawn_in_order(rt: HostRuntime) -> Result<(), Fail> {
     let alloc = rt.alloc();
     let mut core = PlainCore::new(alloc, G)?;
-    assert!(rt; asked(&mut core, alloc, 0, draw(1000))? == drawn(1, 1000));
-    assert!(rt; asked(&mut core, alloc, 0, draw(1000))? == drawn(1001, 2000));
-    assert!(rt; asked(&mut core, alloc, 0, draw(0))? == refused(Code::NotSupported));
-    assert!(rt; asked(&mut core, alloc, 0, draw(100_001))? == refused(Code::NotSupported));
-    assert!(rt; asked(&mut core, alloc, 0, Sub::Access)? == Reply::Access);
-    assert!(rt; core.guid() == G);
+    assert!(rt; draw(&mut core, alloc, 1000)? == drawn(1, 1000));
+    assert!(rt; draw(&mut core, alloc, 1000)? == drawn(1001, 2000));
+    assert!(rt; draw(&mut core, alloc, 100_001)? == refused(Code::NotSupported));
     assert!(rt; core.copy(alloc)? == doc_with(alloc, LockRecord::Free, 2000));
     Ok(())
 }
@@ -165,7 +174,8 @@ fn a_new_document_has_nothing(rt: HostRuntime) -> Result<(), Fail> {
         elements: Seq::new(alloc),
         knowledge: nothing(alloc),
     };
-    assert!(rt; asked(&mut core, alloc, 0, pull(alloc))? == pulled);
+    assert!(rt; pull(&mut core, alloc)? == pulled);
+    assert!(rt; access(&mut core, alloc)? == Reply::Access);
     Ok(())
 }
 
@@ -173,9 +183,7 @@ fn a_new_document_has_nothing(rt: HostRuntime) -> Result<(), Fail> {
 fn a_dropped_plan_changes_nothing(rt: HostRuntime) -> Result<(), Fail> {
     let alloc = rt.alloc();
     let mut core = PlainCore::new(alloc, G)?;
-    let plan = core.plan(&call_at(alloc, 0, draw(1000)))?;
-    assert!(rt; plan.moved);
-    drop(plan);
+    assert!(rt; plan_draw(&mut core, alloc)?);
     assert!(rt; core.copy(alloc)? == doc_with(alloc, LockRecord::Free, 0));
     Ok(())
 }
@@ -185,15 +193,10 @@ fn an_exclusive_lock_keeps_puts_out_until_its_end(rt: HostRuntime) -> Result<(),
     let alloc = rt.alloc();
     let mut core = PlainCore::new(alloc, G)?;
     let taken = locked(LockKind::Exclusive, Coauthors::Nobody);
-    assert!(rt; asked(&mut core, alloc, 0, lock(L, 1000))? == taken);
-    let put_without = asked(&mut core, alloc, 999, put(alloc, None))?;
-    assert!(rt; put_without == refused(Code::AlreadyLocked));
-    let put_with = asked(&mut core, alloc, 999, put(alloc, Some(L)))?;
-    assert!(rt; put_with == refused(Code::NotFound));
-    let put_later = asked(&mut core, alloc, 1000, put(alloc, None))?;
-    assert!(rt; put_later == refused(Code::NotFound));
-    let lock = LockRecord::Exclusive { id: L, until: 1000 };
-    assert!(rt; core.copy(alloc)? == doc_with(alloc, lock, 0));
+    assert!(rt; lock(&mut core, alloc)? == taken);
+    assert!(rt; put(&mut core, alloc, 999, None)? == refused(Code::AlreadyLocked));
+    assert!(rt; put(&mut core, alloc, 999, Some(L))? == refused(Code::NotFound));
+    assert!(rt; put(&mut core, alloc, 1000, None)? == refused(Code::NotFound));
     Ok(())
 }
 
@@ -202,18 +205,17 @@ fn coauthors_join(rt: HostRuntime) -> Result<(), Fail> {
     let alloc = rt.alloc();
     let mut core = PlainCore::new(alloc, G)?;
     let alone = locked(LockKind::Schema, Coauthors::Alone);
-    assert!(rt; asked(&mut core, alloc, 0, join(A))? == alone);
+    assert!(rt; join(&mut core, alloc, A)? == alone);
     let several = locked(LockKind::Schema, Coauthors::Several);
-    assert!(rt; asked(&mut core, alloc, 0, join(B))? == several);
+    assert!(rt; join(&mut core, alloc, B)? == several);
     Ok(())
 }
 
 #[test]
 fn an_empty_document_is_taken_over(rt: HostRuntime) -> Result<(), Fail> {
     let alloc = rt.alloc();
-    let empty = PlainCore::new(alloc, G)?.copy(alloc)?;
-    let mut core = PlainCore::from_doc(alloc, empty)?;
+    let core = taken_over(alloc)?;
+    assert!(rt; core.guid() == G);
     assert!(rt; core.copy(alloc)? == doc_with(alloc, LockRecord::Free, 0));
-    assert!(rt; asked(&mut core, alloc, 0, draw(1))? == drawn(1, 1));
     Ok(())
 }
