@@ -1,3 +1,3 @@
 mod Words
-mod RequestLaws
-mod OneAnswer
+mod FewObjects
+mod Forms

@@ -2,6 +2,5 @@ pub mod Answer
 pub mod Command
 pub mod Input
 pub mod Run
+pub mod Serving
 pub mod Status
-pub mod RequestAnswers
-pub mod RequestReading

@@ -35,9 +35,9 @@ Accepts (Answer guid) input = IsAccepted input
 abbrev pub Refuses : Command → List ℕ → Type 0
 Refuses (Answer guid) input = ¬ IsAccepted input
 
--- the command has this output for the input
-abbrev pub Gives : Command → List ℕ → List ℕ → Type 0
-Gives (Answer guid) input output = Answers guid input output
+-- the command has this output for the input, where the clock has these moments still to be told
+abbrev pub Gives : Command → Option (List ℕ) → List ℕ → List ℕ → Type 0
+Gives (Answer guid) told input output = Answers guid told input output
 
 -- the most bytes that are taken from the source
 abbrev pub most_taken : Option Command → ℕ
@@ -77,12 +77,12 @@ IsToldAnd (Some command) (Some input) P = P command input
 IsToldAnd command left P = ⊥
 
 -- the sink took the whole output
-abbrev pub Writes : Command → List ℕ → Option (List ℕ) → Option (List ℕ) → Type 0
-Writes command input before now = (output : List ℕ) × Gives command input output × Appends before now output
+abbrev pub Writes : Command → Option (List ℕ) → List ℕ → Option (List ℕ) → Option (List ℕ) → Type 0
+Writes command told input before now = (output : List ℕ) × Gives command told input output × Appends before now output
 
 -- the sink took nothing, or a front of the output
-abbrev pub WritesFront : Command → List ℕ → Option (List ℕ) → Option (List ℕ) → Type 0
-WritesFront command input before now = Keeps before now ⊎ ((output : List ℕ) × Gives command input output × AppendsFront before now output)
+abbrev pub WritesFront : Command → Option (List ℕ) → List ℕ → Option (List ℕ) → Option (List ℕ) → Type 0
+WritesFront command told input before now = Keeps before now ⊎ ((output : List ℕ) × Gives command told input output × AppendsFront before now output)
 
 -- what the objects that are handed in show at one moment
 pub record View : Type 0 where
@@ -97,10 +97,10 @@ pub record View : Type 0 where
 pub record Runs (command : Option Command) (before after : View) (status : Status) : Type 0 where
   pub statuses : MayEnd command status
   -- with 0 the whole output went out, and the input was read to its end
-  pub done : status ≡ Done → IfTold command before.left (λ c input. Writes c input before.held after.held)
+  pub done : status ≡ Done → IfTold command before.left (λ c input. Writes c before.told input before.held after.held)
   pub end : status ≡ Done → IsAtEnd after.left
   -- else a front of it, or nothing
-  pub front : IfTold command before.left (λ c input. WritesFront c input before.held after.held)
+  pub front : IfTold command before.left (λ c input. WritesFront c before.told input before.held after.held)
   pub unwritten : LeavesOut command status before.held after.held
   -- each other status has its cause
   pub usage : status ≡ Usage → IsNone command

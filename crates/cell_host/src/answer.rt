@@ -1,31 +1,33 @@
 // The command `answer`: one request from the source, and its response to the sink.
-ghost use Rattle.std.specs.Prelude.{◌≡◌, ◌⊎◌, IfOk, MatchOption, Some};
-ghost use Rattle.cell_host.specs.Answer.{IsAccepted, answers_of};
+ghost use Rattle.std.specs.Prelude.{◌≡◌, ◌<◌, ◌^◌, ℕ, List, IfOk, MatchOption, Some};
+ghost use Rattle.cell_host.specs.Answer.{IsAccepted};
 ghost use Rattle.cell_host.specs.Run.{Runs};
-ghost use Rattle.doc_model.specs.Drawing.{empty_doc};
+ghost use Rattle.cell_host.specs.Serving.{answers_of};
+ghost use Rattle.doc_model.specs.Apply.{empty_doc};
 ghost use Rattle.doc_model.specs.Requests.{IsRequest};
 ghost use Rattle.doc_model.specs.Responses.{response};
 
 use crate::command::Command;
-use crate::drawing::run_draws;
 use crate::input::{InputFault, read_input};
-use crate::request::read_draws;
-use crate::response::write_response;
+use crate::serving::run_subs;
 use crate::status::Status;
 use compact_values::{Guid, NoMemory, Octets};
-use doc_model::{Doc, DrawRequest, DrawRequests};
+use doc_model::CellRequest;
 use host_edge::{Clock, Sink, Source, write_all};
+use plain_core::PlainCore;
 use std::alloc::Global;
+use wire_requests::read_cell_request;
+use wire_responses::write_cell_response;
 
 /// The most bytes that an input may have.
 const LIMIT: usize = 25_165_824;
 
-// The draws of the request that the input is. None where it is no such request.
-fn parse_request(alloc: Global, input: &[u8]) -> Result<Option<DrawRequests>, NoMemory>
-    ensures { IfOk result (λ read. MatchOption read (¬ IsAccepted input.now) (λ draws. IsRequest input.now draws)) }
+// The request that the input is. None where it is none.
+fn parse_request(alloc: Global, input: &[u8]) -> Result<Option<CellRequest>, NoMemory>
+    ensures { IfOk result (λ read. MatchOption read (¬ IsAccepted input.now) (λ request. IsRequest input.now request)) }
 {
-    match read_draws(alloc, input) {
-        Ok(draws) => Ok(Some(draws)),
+    match read_cell_request(alloc, input) {
+        Ok(request) => Ok(Some(request)),
         Err(fault) => {
             if fault.is_no_memory() {
                 return Err(NoMemory);
@@ -35,12 +37,22 @@ fn parse_request(alloc: Global, input: &[u8]) -> Result<Option<DrawRequests>, No
     }
 }
 
-// The response of the new document of this GUID.
-fn respond(alloc: Global, guid: Guid, draws: &[DrawRequest]) -> Result<Octets, NoMemory>
-    ensures { IfOk result (λ bytes. bytes ≡ response (answers_of (empty_doc guid) draws.now)) }
+// The response of the new document of this GUID to a request that was read.
+#[tactic(auto, using(crate::proofs::Forms::answers_form))]
+fn respond(
+    alloc: Global,
+    guid: Guid,
+    moment: u64,
+    request: &CellRequest,
+) -> Result<Octets, NoMemory>
+    requires below { moment < 2 ^ 40 }
+    requires request { (bytes : List ℕ) × IsRequest bytes request.now }
+    ensures { IfOk result (λ bytes. bytes ≡ response (answers_of moment request.now.elements (empty_doc guid) request.now.subs)) }
 {
-    let answers = run_draws(alloc, Doc { guid, drawn: 0 }, draws)?;
-    write_response(alloc, answers.as_slice())
+    let mut core = PlainCore::new(alloc, guid)?;
+    let subs = request.subs.as_slice();
+    let answers = run_subs(alloc, &mut core, moment, &request.elements, subs)?;
+    write_cell_response(alloc, &answers)
 }
 
 /// Reads a request to the end of the source, and writes its response. The clock is asked once, when the input has
@@ -77,14 +89,14 @@ pub fn answer<S: Source, K: Sink, C: Clock>(
         Err(InputFault::TooLong) => return Status::Refused,
         Err(InputFault::NoMemory) => return Status::NoMemory,
     };
-    let _moment = clock.moment();
+    let moment = clock.moment();
     let Ok(read) = parse_request(alloc, &input) else {
         return Status::NoMemory;
     };
-    let Some(draws) = read else {
+    let Some(request) = read else {
         return Status::Refused;
     };
-    let Ok(response) = respond(alloc, guid, draws.as_slice()) else {
+    let Ok(response) = respond(alloc, guid, moment, &request) else {
         return Status::NoMemory;
     };
     match write_all(out, response.as_slice()) {

@@ -62,12 +62,12 @@ pub fn host_once<S: Source, K: Sink, E: Sink, C: Clock>(
 
     // With 0 the whole output went out, and the input was read to its end.
     ensures done { result ≡ code_of Status.Done → IfTold (command_in words.now) (S.left source.old)
-        (λ command input. Writes command input (K.held out.old) (K.held out.new)) }
+        (λ command input. Writes command (C.told clock.old) input (K.held out.old) (K.held out.new)) }
     ensures end { result ≡ code_of Status.Done → IsAtEnd (S.left source.new) }
 
     // Else a front of it, or nothing.
     ensures front { IfTold (command_in words.now) (S.left source.old)
-        (λ command input. WritesFront command input (K.held out.old) (K.held out.new)) }
+        (λ command input. WritesFront command (C.told clock.old) input (K.held out.old) (K.held out.new)) }
     ensures unwritten { (status : Status) × (result ≡ code_of status)
         × LeavesOut (command_in words.now) status (K.held out.old) (K.held out.new) }
 

@@ -3,13 +3,9 @@
 
 mod answer;
 mod command;
-mod drawing;
-mod fault;
-mod front;
 mod host;
 mod input;
-mod request;
-mod response;
+mod serving;
 mod status;
 #[cfg(test)]
 mod tests;

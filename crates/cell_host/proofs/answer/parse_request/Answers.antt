@@ -1,4 +1,4 @@
-use Rattle.cell_host.proofs.OneAnswer.{no_request}
+use Rattle.wire_requests.proofs.OneAnswer.{no_request}
 use Rattle.cell_host.proofs.answer.parse_request.Goals as goal
 
 -- the only answer is a fault, so there is no request
