@@ -2,8 +2,8 @@
 use crate::host::host_once;
 use compact_values::{CellIds, ExGuid, Guid, Ids, Octets, Seq};
 use doc_model::{
-    Body, CellRequest, CellResponse, Content, Element, Elements, Knowledge, Object, Range,
-    WireKind, WireSub,
+    Body, CellRequest, CellResponse, Content, Element, Elements, Knowledge, NumberedElement,
+    Object, Range, WireKind, WireSub,
 };
 use file_nodes::{Chunked, chunk};
 use host_edge::{ListClock, MemSink, MemSource};
@@ -220,8 +220,16 @@ fn file_of_size(alloc: Global, size: usize) -> Result<Vec<u8>, Fail> {
     Ok(bytes)
 }
 
-/// Whether a file of so many bytes is saved and comes back as it was cut.
-fn comes_back(alloc: Global, size: usize) -> Result<bool, Fail> {
+/// Whether one element is a group, of so many objects.
+fn has_group(elements: &[NumberedElement], count: usize) -> bool {
+    elements.iter().any(|numbered| match &numbered.element.body {
+        Body::Group { objects } => objects.len() == count,
+        _ => false,
+    })
+}
+
+/// Whether a file of so many bytes is saved and comes back as it was cut, into so many objects.
+fn comes_back(alloc: Global, size: usize, objects: usize) -> Result<bool, Fail> {
     let bytes = file_of_size(alloc, size)?;
     let Chunked {
         index,
@@ -235,6 +243,7 @@ fn comes_back(alloc: Global, size: usize) -> Result<bool, Fail> {
         knows(&response, 0, 5)
             && knows(&response, 1, 5)
             && has_index(&response, 1, index)
+            && has_group(response.elements.as_slice(), objects)
             && has_elements(&response, sent.elements.as_slice()),
     )
 }
@@ -242,15 +251,18 @@ fn comes_back(alloc: Global, size: usize) -> Result<bool, Fail> {
 #[test]
 fn files_of_all_heights_come_back(rt: HostRuntime) -> Result<(), Fail> {
     let alloc = rt.alloc();
-    for size in [0, 1, 65_536, 65_537, 4_194_305] {
-        assert!(rt; comes_back(alloc, size)?);
+    // a root and its leaves; the last file has 65 leaves, and two nodes above them
+    let files = [(0, 1), (1, 2), (65_536, 2), (65_537, 3), (4_194_305, 68)];
+    for (size, objects) in files {
+        assert!(rt; comes_back(alloc, size, objects)?);
     }
     Ok(())
 }
 
 #[test]
 fn the_largest_file_comes_back(rt: HostRuntime) -> Result<(), Fail> {
-    assert!(rt; comes_back(rt.alloc(), 16_777_216)?);
+    // a root, four nodes and 256 leaves
+    assert!(rt; comes_back(rt.alloc(), 16_777_216, 261)?);
     Ok(())
 }
 
@@ -266,12 +278,16 @@ fn a_part_waits_for_the_last(rt: HostRuntime) -> Result<(), Fail> {
         put(index, ExGuid::Null, PARTIAL),
         pull(alloc, &[])?,
         put(index, ExGuid::Null, LAST),
+        pull(alloc, &[])?,
     ]?;
-    let response = answered(alloc, &request(subs, elements))?;
+    let sent = request(subs, elements);
+    let response = answered(alloc, &sent)?;
     assert!(rt; knows_nothing(&response, 0));
     assert!(rt; knows_nothing(&response, 1));
     assert!(rt; has_index(&response, 1, ExGuid::Null));
     assert!(rt; knows(&response, 2, 5));
+    assert!(rt; has_index(&response, 3, index));
+    assert!(rt; has_elements(&response, sent.elements.as_slice()));
     Ok(())
 }
 
@@ -298,6 +314,16 @@ fn an_expected_index_may_be_implied_null(rt: HostRuntime) -> Result<(), Fail> {
     Ok(())
 }
 
+/// Whether the sub-request at this place gets the numbers 1 to `to` of the document.
+fn draws(response: &CellResponse, place: usize, to: u64) -> bool {
+    match response.answers.as_slice().get(place) {
+        Some(seen) => {
+            seen.fault.is_none() && seen.guid == DOCUMENT && seen.least == 1 && seen.greatest == to
+        }
+        None => false,
+    }
+}
+
 #[test]
 fn numbers_of_the_document_are_drawn_first(rt: HostRuntime) -> Result<(), Fail> {
     let alloc = rt.alloc();
@@ -312,7 +338,10 @@ fn numbers_of_the_document_are_drawn_first(rt: HostRuntime) -> Result<(), Fail> 
         put(index, ExGuid::Null, 0),
     ]?;
     let response = answered(alloc, &request(subs, elements))?;
+    // six numbers, one for the root and one for its leaf
+    assert_eq!(rt; used, 8);
     assert!(rt; is_refused(&response, 0, INVALID_OBJECT));
+    assert!(rt; draws(&response, 1, 8));
     assert!(rt; knows(&response, 2, 5));
     Ok(())
 }
