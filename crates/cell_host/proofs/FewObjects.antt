@@ -1,18 +1,17 @@
 -- Each element of a request is written in no more stream objects than the request has.
-use Rattle.std.proofs.Common.{◌≡◌, ℕ, ◌+◌, ◌*◌, ◌≤◌, ◌==◌, ◌||◌, Bool, true, false, List, [], ◌∷◌, length, map, sum, refl, sym, ap, subst, inl, inr, ◌∙◌, rules, arith}
+use Rattle.std.proofs.Common.{◌≡◌, ℕ, ◌+◌, ◌*◌, ◌≤◌, ◌||◌, Bool, true, false, List, [], ◌∷◌, length, map, sum, refl, sym, inl, inr, ◌∙◌, arith}
 use Rattle.std.specs.Prelude.{filter}
 use Rattle.std.specs.List.{All, AllByRecursion}
 use Rattle.std.proofs.lemmas.List.Elements.{All-from_recursion}
 use Rattle.std.proofs.lemmas.Bool.{cases_Bool}
 use Rattle.std.proofs.lemmas.Bool.Decides.{eqb_tells}
-use Rattle.compact_values.specs.declared.ids.ExGuid.{ExGuid}
-use Rattle.stream_objects.specs.Objects.{Each, Any, One, kind_of, is_kind, children_of}
+use Rattle.stream_objects.specs.Objects.{Each, Any, kind_of, is_kind, children_of}
 use Rattle.stream_objects.specs.Trees.{objects}
 use Rattle.stream_objects.specs.declared.tree.Tree.{Tree}
 use Rattle.stream_objects.specs.declared.tree.Tree.TheViews.{out-Tree}
 use Rattle.stream_objects.proofs.Unique.{objects-cons, objects_out}
-use Rattle.doc_model.specs.ElementObjects.{ManifestMapping, CellMapping, RevisionMapping, SchemaGuid, ManifestRoot, CurrentRevision, RevisionManifest, IsRevisionRoot, GroupReference, BlobContent}
-use Rattle.doc_model.specs.Elements.{SaysBody, IsElement, IsPackage}
+use Rattle.doc_model.specs.ElementObjects.{ManifestMapping, CellMapping, RevisionMapping, ManifestRoot, IsRevisionRoot, GroupReference}
+use Rattle.doc_model.specs.Elements.{SaysBody, IsElement}
 use Rattle.doc_model.specs.Groups.{EachPair, SaysContent, SaysGroup, declarations_in, data_in}
 use Rattle.doc_model.specs.Requests.{IsRequest}
 use Rattle.doc_model.specs.Weights.{objects_in, objects_written}

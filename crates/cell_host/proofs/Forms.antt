@@ -1,6 +1,6 @@
 -- What is answered to a binary sub-request has a form in a response.
-use Rattle.std.proofs.Common.{◌≡◌, ℕ, Bool, true, false, List, [], ◌∷◌, refl, IsSome, inl, inr}
-use Rattle.std.specs.Prelude.{find, Option, Some, None, option_map}
+use Rattle.std.proofs.Common.{ℕ, Bool, List, [], ◌∷◌, refl, IsSome, inl, inr}
+use Rattle.std.specs.Prelude.{Option, Some, None}
 use Rattle.std.specs.List.{All, AllByRecursion}
 use Rattle.std.proofs.lemmas.List.Elements.{All-nil, All-cons}
 use Rattle.std.proofs.lemmas.Bool.{cases_Bool}

@@ -42,6 +42,8 @@ pub use wire_fault::WireFault;
 pub use write::{write_element, write_knowledge, write_package};
 
 #[cfg(test)]
+mod round_tests;
+#[cfg(test)]
 mod tests;
 #[cfg(test)]
 mod write_tests;

@@ -17,7 +17,7 @@ fn package(alloc: Global, kind: u8, children: &[u8]) -> Result<Octets, NoMemory>
 }
 
 /// What is read of these bytes. None where they are no object.
-fn read(alloc: Global, bytes: &[u8]) -> Option<Result<Elements, ElementFault>> {
+pub fn read(alloc: Global, bytes: &[u8]) -> Option<Result<Elements, ElementFault>> {
     match read_tree(alloc, bytes, 0) {
         Ok((tree, _next)) => Some(read_package(alloc, bytes, &tree)),
         Err(_) => None,
@@ -33,7 +33,7 @@ fn element(alloc: Global, kind: u8, children: &[u8]) -> Option<Result<Elements, 
 }
 
 /// The place of the fault in an element.
-fn place(alloc: Global, kind: u8, children: &[u8]) -> Option<usize> {
+pub fn place(alloc: Global, kind: u8, children: &[u8]) -> Option<usize> {
     match element(alloc, kind, children) {
         Some(Err(ElementFault::SchemaFault { place })) => Some(place),
         _ => None,

@@ -20,14 +20,14 @@ const NO_CELL: CellId = CellId {
     second: ExGuid::Null,
 };
 
-fn id(value: u32) -> ExGuid {
+pub fn id(value: u32) -> ExGuid {
     ExGuid::Id {
         guid: guid_of(&G),
         value,
     }
 }
 
-fn joined(alloc: Global, parts: &[&[u8]]) -> Result<Octets, NoMemory> {
+pub fn joined(alloc: Global, parts: &[&[u8]]) -> Result<Octets, NoMemory> {
     let mut out = Octets::new(alloc);
     for part in parts {
         out.extend_from_slice(part)?;
@@ -35,7 +35,7 @@ fn joined(alloc: Global, parts: &[&[u8]]) -> Result<Octets, NoMemory> {
     Ok(out)
 }
 
-fn list_of<T: Drop>(alloc: Global, item: T) -> Result<Seq<T>, NoMemory> {
+pub fn list_of<T: Drop>(alloc: Global, item: T) -> Result<Seq<T>, NoMemory> {
     let mut list = Seq::new(alloc);
     list.push(item)?;
     Ok(list)
@@ -65,7 +65,7 @@ fn expected(alloc: Global, rest: &[&[u8]]) -> Result<Octets, NoMemory> {
     Ok(out)
 }
 
-fn an_index(alloc: Global) -> Result<Body, NoMemory> {
+pub fn an_index(alloc: Global) -> Result<Body, NoMemory> {
     let target = id(1);
     let serial = Serial::Null;
     let manifests = list_of(alloc, ManifestMap { target, serial })?;
@@ -108,7 +108,7 @@ fn an_index_is_written(rt: HostRuntime) -> Result<(), Fail> {
     Ok(())
 }
 
-fn a_storage(alloc: Global) -> Result<Body, NoMemory> {
+pub fn a_storage(alloc: Global) -> Result<Body, NoMemory> {
     let root = Root {
         root: ExGuid::Null,
         cell: NO_CELL,
@@ -119,7 +119,7 @@ fn a_storage(alloc: Global) -> Result<Body, NoMemory> {
     })
 }
 
-fn a_revision(alloc: Global) -> Result<Body, NoMemory> {
+pub fn a_revision(alloc: Global) -> Result<Body, NoMemory> {
     let root = RevisionRoot {
         root: ExGuid::Null,
         object: ExGuid::Null,
@@ -158,7 +158,7 @@ fn manifests_are_written(rt: HostRuntime) -> Result<(), Fail> {
 }
 
 /// A group of an object of this size whose bytes are in a blob, and one that has its two bytes with it.
-fn a_group(alloc: Global, size: u64) -> Result<Body, NoMemory> {
+pub fn a_group(alloc: Global, size: u64) -> Result<Body, NoMemory> {
     let mut objects = Objects::new(alloc);
     objects.push(Object {
         id: id(0),

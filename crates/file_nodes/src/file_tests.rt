@@ -192,11 +192,11 @@ fn objects_of(alloc: Global, chunked: &Chunked) -> Option<ObjectMap> {
     Some(map)
 }
 
-/// The root of a file that is cut from 1 on has the value 7.
+/// A file of 16 MiB. The root of a file that is cut from 1 on has the value 7.
 #[test]
 fn cut_file_is_put_together(rt: HostRuntime) -> Result<(), Fail> {
     let alloc = rt.alloc();
-    let mut bytes = vec![in alloc; 7_u8; 65_536]?;
+    let mut bytes = vec![in alloc; 7_u8; 16_777_213]?;
     bytes.extend_from_slice(b"end")?;
     let chunked = chunk(alloc, bytes.as_slice(), Guid { number: 7 }, 1)?;
     let objects = objects_of(alloc, &chunked).ok_or("memory")?;

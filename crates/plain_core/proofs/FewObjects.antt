@@ -1,5 +1,5 @@
 -- Elements that are written in few enough stream objects: those of what is kept, of what is pending and of what is sent.
-use Rattle.std.proofs.Common.{◌≡◌, ℕ, ◌≤◌, refl, sym, ◌∙◌, ap, Bool, true, false, ◌&&◌, cond, List, [], ◌∷◌, ◌++◌, filter, find, nat_le, Option, None, Some, option_map, unwrap_or, arith}
+use Rattle.std.proofs.Common.{◌≡◌, ℕ, ◌≤◌, refl, sym, ◌∙◌, Bool, true, false, ◌&&◌, cond, List, [], ◌∷◌, ◌++◌, filter, nat_le, Some, option_map, unwrap_or, arith}
 use Rattle.std.specs.List.{All, AllByRecursion as Each, list_all}
 use Rattle.std.proofs.lemmas.Bool.Decides.{nat_tests}
 use Rattle.std.proofs.lemmas.List.Folds.{list_all-append}
@@ -11,7 +11,7 @@ use Rattle.doc_model.specs.declared.doc.Part.{Part}
 use Rattle.doc_model.specs.declared.element.Element.{Element}
 use Rattle.doc_model.specs.Limits.{most_objects}
 use Rattle.doc_model.specs.Puts.{find_part, pending, is_kept, other_parts}
-use Rattle.doc_model.specs.Sound.{IsSoundElement, IsSoundPart, Sound}
+use Rattle.doc_model.specs.Sound.{IsSoundElement, IsSoundPart}
 use Rattle.doc_model.specs.Weights.{objects_written}
 use Rattle.plain_core.specs.Weighing.{is_few, all_few, few_parts}
 

@@ -1,5 +1,5 @@
 -- What stands at the first place of an id is what is found by it.
-use Rattle.std.proofs.Common.{◌≡◌, ℕ, suc, refl, ap, Bool, true, false, cond, ◌||◌, List, [], ◌∷◌, map, find, Option, Some, None, option_map, option_and_then, slice_get}
+use Rattle.std.proofs.Common.{◌≡◌, ℕ, suc, refl, ap, Bool, true, false, cond, ◌||◌, List, [], ◌∷◌, map, Option, Some, None, option_map, option_and_then, slice_get}
 use Rattle.std.specs.List.{list_any}
 use Rattle.compact_values.specs.declared.ids.ExGuid.{ExGuid}
 use Rattle.compact_values.specs.IdPlaces.{place_of}

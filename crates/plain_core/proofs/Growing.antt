@@ -8,8 +8,8 @@ use Rattle.compact_values.specs.declared.ids.ExGuid.{ExGuid}
 use Rattle.compact_values.specs.SameIds.{same_id}
 use Rattle.compact_values.proofs.SameIds.{id-same}
 use Rattle.doc_model.specs.declared.element.Element.{Element}
-use Rattle.doc_model.specs.Finding.{with_new, firsts}
-use Rattle.doc_model.specs.Puts.{same_ids, is_new, fresh, grown}
+use Rattle.doc_model.specs.Finding.{with_new}
+use Rattle.doc_model.specs.Puts.{same_ids, is_new, grown}
 
 module _ (added : List Element) where
   abbrev new : List Element → List Element

@@ -6,3 +6,4 @@ pub mod ChainSteps
 pub mod FiledAnswers
 pub mod BlobsFound
 pub mod FewObjects
+pub mod EmptySound

@@ -1,6 +1,5 @@
 -- The file at an index, as it is answered.
 use Rattle.std.specs.Prelude.{◌≡◌, ℕ, ◌<◌, ◌≤◌, List, [], map, length, Option, None, Some, option_and_then, unwrap_or, Result, Ok, Err}
-use Rattle.compact_values.specs.declared.ids.ExGuid.{ExGuid}
 use Rattle.doc_model.specs.declared.element.Element.{Element}
 use Rattle.doc_model.specs.declared.element.Object.{Object}
 use Rattle.doc_model.specs.Files.{objects_of, own_bytes, root_object}

@@ -1,5 +1,5 @@
 -- The document that a plain core is, and the one that it becomes by a change.
-use Rattle.std.specs.Prelude.{ℕ, ◌+◌, nat_le, nat_lt, Bool, true, ◌&&◌, if◌then◌else◌, [], ◌∷◌, ◌++◌, Option, Some, None, vec_len, vec_capacity}
+use Rattle.std.specs.Prelude.{◌+◌, nat_le, nat_lt, Bool, true, ◌&&◌, if◌then◌else◌, [], ◌∷◌, ◌++◌, Option, Some, None, vec_len, vec_capacity}
 use Rattle.doc_model.specs.declared.doc.Doc.{Doc}
 use Rattle.plain_core.specs.Weighing.{all_few, few_parts}
 use Rattle.plain_core.specs.declared.plain.PlainCore.{PlainCore}

@@ -1,15 +1,13 @@
 -- The reasons to refuse an upload, in three groups: its elements, the versions, and what its index says.
-use Rattle.std.specs.Prelude.{ℕ, Bool, not, ◌||◌, List, [], ◌∷◌, is_some, is_none}
+use Rattle.std.specs.Prelude.{Bool, not, ◌||◌, List, [], ◌∷◌, is_some, is_none}
 use Rattle.compact_values.specs.declared.ids.ExGuid.{ExGuid}
 use Rattle.doc_model.specs.declared.call.Put.{Put}
 use Rattle.doc_model.specs.declared.doc.Commit.{Commit}
-use Rattle.doc_model.specs.declared.doc.Doc.{Doc}
 use Rattle.doc_model.specs.declared.element.Element.{Element}
 use Rattle.doc_model.specs.declared.reply.Code.{Code}
 use Rattle.doc_model.specs.declared.reply.Code.TheVariants as codes
 use Rattle.doc_model.specs.Files.{file}
-use Rattle.doc_model.specs.Locks.{live, allowed}
-use Rattle.doc_model.specs.Puts.{has_invalid, too_much_added, is_expected, is_committed, has_chains, too_large}
+use Rattle.doc_model.specs.Puts.{is_expected, is_committed, has_chains, too_large}
 use Rattle.doc_model.specs.Reached.{absent}
 
 abbrev pub entry_reasons : Bool → Bool → Bool → List (Bool × Code)

@@ -1,13 +1,21 @@
 //! A document kept as its lists: each call looks through them.
 //!
 //! - `catalog`: the elements, found by their ids, and what they say
-//! - `sayings`: what elements say, borrowed
-//! - `chains`: the chains of bases of an index
-//! - `naming`: what an index names
-//! - `pull`: what a client lacks
+//! - `chains`: whether the chains of bases of an index end
+//! - `checking`: whether the elements of an upload may be added
+//! - `content`: why what an index says refuses an upload
 //! - `file`: the file at an index
-//! - `reaching`: what is reached from an index
+//! - `naming`: what an index names
 //! - `plain`: the document, its plans and what settles them
+//! - `plan_lock`: planning a step of the lock
+//! - `plan_put`: planning an upload
+//! - `pull`: what a client lacks, and what it knows then
+//! - `put`: what an upload meets, and the first reasons to refuse it
+//! - `reaching`: what is reached from an index, and whether it is too much
+//! - `sayings`: what elements say, borrowed
+//! - `serials`: the serial numbers of what was sent
+//! - `uploads`: the uploads that aren't complete
+//! - `weighing`: what elements weigh, against a limit
 #![tactic(auto)]
 
 mod catalog;
@@ -24,6 +32,8 @@ mod put;
 mod reaching;
 mod sayings;
 mod serials;
+#[cfg(test)]
+mod tests;
 mod uploads;
 mod weighing;
 

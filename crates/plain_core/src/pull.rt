@@ -1,11 +1,11 @@
 // Pulls: what a client lacks, and what it knows then.
 ghost use Rattle.std.specs.Prelude.{◌≡◌, ◌+◌, [], ◌∷◌, ◌++◌, IfOk, map, filter};
-ghost use Rattle.doc_model.specs.Reached.{is_among, names};
+ghost use Rattle.doc_model.specs.Reached.{names};
 ghost use Rattle.doc_model.specs.Pulls.{knows, ranges_of, stored_index, named_ids, lacking, known_then, pulled};
 
 use crate::catalog::Catalog;
 use crate::naming::names;
-use compact_values::{Copied, ExGuid, Guid, Ids, NoMemory, Seq};
+use compact_values::{Copied, ExGuid, Guid, IdIndex, NoMemory, Seq};
 use doc_model::{
     Commit, Element, Knowledge, Namings, Numbered, NumberedElement, Range, Ranges, Reply,
 };
@@ -43,13 +43,6 @@ pub fn ranges_of(alloc: Global, guid: Guid, serials: &[u64]) -> Result<Ranges, N
     Ok(done)
 }
 
-/// Whether an id is one of these.
-fn is_among(ids: &[ExGuid], id: ExGuid) -> bool
-    ensures { result ≡ is_among ids.now id }
-{
-    ids.iter().any(|other| id.is(*other))
-}
-
 /// The index of the last commit, or null.
 pub fn stored_index(commits: &[Commit]) -> ExGuid
     ensures { result ≡ stored_index commits.now }
@@ -70,10 +63,10 @@ fn names_in(alloc: Global, added: &[Element], index: ExGuid) -> Result<Namings, 
 }
 
 /// The ids that are named from the stored index.
-fn named_ids(alloc: Global, added: &[Element], commits: &[Commit]) -> Result<Ids, NoMemory>
+fn named_ids(alloc: Global, added: &[Element], commits: &[Commit]) -> Result<IdIndex, NoMemory>
     ensures { IfOk result (λ ids. ids ≡ named_ids added.now commits.now) }
 {
-    let mut ids = Seq::new(alloc);
+    let mut ids = IdIndex::new(alloc);
     if commits.is_empty() {
         return Ok(ids);
     }
@@ -89,7 +82,7 @@ fn lacking(
     alloc: Global,
     guid: Guid,
     known: &[Range],
-    ids: &[ExGuid],
+    ids: &IdIndex,
     added: &[Element],
 ) -> Result<Numbered, NoMemory>
     ensures { IfOk result (λ all. all ≡ lacking guid known.now ids.now added.now) }
@@ -98,7 +91,7 @@ fn lacking(
     let mut serial = 0;
     for element in added {
         serial += 1;
-        if is_among(ids, element.id) && !knows(guid, known, serial) {
+        if ids.contains(element.id) && !knows(guid, known, serial) {
             let element = element.copied(alloc)?;
             all.push(NumberedElement { serial, element })?;
         }
@@ -111,7 +104,7 @@ fn known_then(
     alloc: Global,
     guid: Guid,
     known: &[Range],
-    ids: &[ExGuid],
+    ids: &IdIndex,
     added: &[Element],
 ) -> Result<Seq<u64>, NoMemory>
     ensures { IfOk result (λ all. all ≡ known_then guid known.now ids.now added.now) }
@@ -120,7 +113,7 @@ fn known_then(
     let mut serial = 0;
     for element in added {
         serial += 1;
-        if knows(guid, known, serial) || is_among(ids, element.id) {
+        if knows(guid, known, serial) || ids.contains(element.id) {
             all.push(serial)?;
         }
     }
@@ -139,8 +132,8 @@ pub fn pull(
 {
     let index = stored_index(commits);
     let ids = named_ids(alloc, added, commits)?;
-    let elements = lacking(alloc, guid, known, ids.as_slice(), added)?;
-    let serials = known_then(alloc, guid, known, ids.as_slice(), added)?;
+    let elements = lacking(alloc, guid, known, &ids, added)?;
+    let serials = known_then(alloc, guid, known, &ids, added)?;
     let ranges = ranges_of(alloc, guid, serials.as_slice())?;
     Ok(Reply::Pulled {
         guid,

@@ -1,4 +1,4 @@
-use Rattle.std.proofs.Common.{◌≡◌, ◌∙◌, sym, ap, Some, option_copied}
+use Rattle.std.proofs.Common.{◌∙◌, sym, ap, option_copied}
 use Rattle.std.specs.Prelude.{not}
 use Rattle.doc_model.specs.Puts.{differs}
 use Rattle.doc_model.proofs.SameContents.{told}

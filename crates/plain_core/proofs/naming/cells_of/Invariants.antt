@@ -1,5 +1,5 @@
-use Rattle.std.proofs.Common.{◌≡◌, ◌++◌, drop, map, flat_map, fold, []}
-use Rattle.doc_model.specs.Reached.{groups_of, blobs_of, blob_of, same_cells, current_of}
+use Rattle.std.proofs.Common.{◌≡◌, drop, fold}
+use Rattle.doc_model.specs.Reached.{same_cells}
 use Rattle.doc_model.specs.Finding.{firsts, with_new}
 use Rattle.plain_core.proofs.naming.cells_of.Given as goal
 

@@ -1,5 +1,5 @@
-use Rattle.std.proofs.Common.{◌≡◌, ◌++◌, drop, map, flat_map, fold, []}
-use Rattle.doc_model.specs.Reached.{groups_of, blobs_of, blob_of, same_cells, current_of}
+use Rattle.std.proofs.Common.{◌≡◌, ◌++◌, drop, flat_map}
+use Rattle.doc_model.specs.Reached.{groups_of}
 use Rattle.plain_core.specs.Cataloging.{listed}
 use Rattle.plain_core.proofs.naming.name_groups.Given as goal
 

@@ -1,6 +1,4 @@
-use Rattle.std.proofs.Common.{◌≡◌, ◌+◌, ◌++◌, drop, map, filter}
-use Rattle.doc_model.specs.Finding.{numbered_from}
-use Rattle.doc_model.specs.Pulls.{ranges_after, ranges_of, is_lacking, is_known_then, lacking, known_then}
+use Rattle.std.proofs.Common.{◌≡◌, ◌++◌, drop, map}
 use Rattle.plain_core.proofs.pull.named_ids.Given as goal
 
 -- what is there, and what is still to be done

@@ -1,4 +1,4 @@
-use Rattle.std.proofs.Common.{◌≡◌, ◌+◌, ◌++◌, ◌∙◌, ap, map, filter, length}
+use Rattle.std.proofs.Common.{◌+◌, ◌++◌, ◌∙◌, ap, map, filter, length}
 use Rattle.doc_model.specs.Finding.{numbered_from}
 use Rattle.plain_core.specs.Sending.{is_one_of}
 use Rattle.plain_core.proofs.SentSerials.{serials-both}

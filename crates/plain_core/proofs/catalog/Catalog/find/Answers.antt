@@ -1,6 +1,5 @@
-use Rattle.std.proofs.Common.{◌≡◌, ◌++◌, ℕ, sym, ◌∙◌, ap, List, Option, None, Some, map, option_and_then, slice_get}
+use Rattle.std.proofs.Common.{◌≡◌, ◌++◌, sym, ◌∙◌, ap, None, Some, map, option_and_then, slice_get}
 use Rattle.compact_values.specs.IdPlaces.{place_of}
-use Rattle.doc_model.specs.declared.element.Element.{Element}
 use Rattle.plain_core.specs.Cataloging.{listed}
 use Rattle.plain_core.proofs.FoundPlaces.{place-found}
 use Rattle.plain_core.proofs.catalog.Catalog.find.Goals as goal

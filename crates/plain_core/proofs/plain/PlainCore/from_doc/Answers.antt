@@ -1,4 +1,4 @@
-use Rattle.std.proofs.Common.{◌≡◌, ◌∙◌, ap}
+use Rattle.std.proofs.Common.{◌∙◌, ap}
 use Rattle.plain_core.specs.Weighing.{all_few}
 use Rattle.plain_core.proofs.FewObjects.{few-sound, few-sound-parts}
 use Rattle.plain_core.proofs.plain.PlainCore.from_doc.Goals as goal

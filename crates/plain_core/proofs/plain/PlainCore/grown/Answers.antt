@@ -1,4 +1,4 @@
-use Rattle.std.proofs.Common.{◌≡◌, ◌∙◌, ap}
+use Rattle.std.proofs.Common.{◌∙◌, ap}
 use Rattle.doc_model.specs.Puts.{grown}
 use Rattle.plain_core.specs.Uploading.{elements_of}
 use Rattle.plain_core.specs.Weighing.{is_few, all_few}

@@ -1,4 +1,4 @@
-use Rattle.std.proofs.Common.{◌≡◌, ◌∙◌, ap}
+use Rattle.std.proofs.Common.{◌∙◌, ap}
 use Rattle.doc_model.specs.Puts.{other_parts}
 use Rattle.plain_core.specs.Weighing.{few_parts}
 use Rattle.plain_core.proofs.FewObjects.{few-others}

@@ -1,4 +1,4 @@
-use Rattle.std.proofs.Common.{◌≡◌, ◌++◌, ◌∙◌, ap}
+use Rattle.std.proofs.Common.{◌++◌, ◌∙◌, ap}
 use Rattle.doc_model.specs.Puts.{pending}
 use Rattle.plain_core.specs.Weighing.{is_few, all_few}
 use Rattle.plain_core.proofs.FewObjects.{all-both, few-pending}
