@@ -346,10 +346,15 @@ fn numbers_of_the_document_are_drawn_first(rt: HostRuntime) -> Result<(), Fail> 
     Ok(())
 }
 
-/// Whether a put of this index with these elements is refused with this error.
-fn refuses(alloc: Global, index: ExGuid, elements: Elements, number: u32) -> Result<bool, Fail> {
+/// The response to a put of this index with these elements, which expects null.
+fn put_alone(alloc: Global, index: ExGuid, elements: Elements) -> Result<CellResponse, Fail> {
     let subs = vec![in alloc; put(index, ExGuid::Null, 0)]?;
-    let response = answered(alloc, &request(subs, elements))?;
+    answered(alloc, &request(subs, elements))
+}
+
+/// Whether that put is refused with this error.
+fn refuses(alloc: Global, index: ExGuid, elements: Elements, number: u32) -> Result<bool, Fail> {
+    let response = put_alone(alloc, index, elements)?;
     Ok(is_refused(&response, 0, number))
 }
 
@@ -373,8 +378,8 @@ fn cell(id: ExGuid) -> Element {
 #[test]
 fn elements_have_ids_of_their_own(rt: HostRuntime) -> Result<(), Fail> {
     let alloc = rt.alloc();
-    let fine = with_element(alloc, cell(id(99)))?;
-    assert!(rt; !refuses(alloc, id(1), fine, INVALID_OBJECT)?);
+    let fine = put_alone(alloc, id(1), with_element(alloc, cell(id(99)))?)?;
+    assert!(rt; knows(&fine, 0, 6));
     let twice = with_element(alloc, cell(id(1)))?;
     assert!(rt; refuses(alloc, id(1), twice, INVALID_OBJECT)?);
     let null = with_element(alloc, cell(ExGuid::Null))?;
