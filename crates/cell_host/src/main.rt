@@ -5,6 +5,8 @@ mod answer;
 mod command;
 mod host;
 mod input;
+#[cfg(test)]
+mod put_tests;
 mod serving;
 mod status;
 #[cfg(test)]
