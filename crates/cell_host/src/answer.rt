@@ -12,7 +12,7 @@ use crate::input::{InputFault, read_input};
 use crate::serving::run_subs;
 use crate::status::Status;
 use compact_values::{Guid, NoMemory, Octets};
-use doc_model::CellRequest;
+use doc_model::{Answers, CellRequest, Core};
 use host_edge::{Clock, Sink, Source, write_all};
 use plain_core::PlainCore;
 use std::alloc::Global;
@@ -23,7 +23,7 @@ use wire_responses::write_cell_response;
 const LIMIT: usize = 25_165_824;
 
 // The request that the input is. None where it is none.
-fn parse_request(alloc: Global, input: &[u8]) -> Result<Option<CellRequest>, NoMemory>
+pub(crate) fn parse_request(alloc: Global, input: &[u8]) -> Result<Option<CellRequest>, NoMemory>
     ensures { IfOk result (λ read. MatchOption read (¬ IsAccepted input.now) (λ request. IsRequest input.now request)) }
 {
     match read_cell_request(alloc, input) {
@@ -35,6 +35,21 @@ fn parse_request(alloc: Global, input: &[u8]) -> Result<Option<CellRequest>, NoM
             Ok(None)
         }
     }
+}
+
+// Runs the sub-requests of a request that was read.
+pub(crate) fn answers_on<C: Core>(
+    alloc: Global,
+    core: &mut C,
+    moment: u64,
+    request: &CellRequest,
+) -> Result<Answers, NoMemory>
+    requires below { moment < 2 ^ 40 }
+    requires request { (bytes : List ℕ) × IsRequest bytes request.now }
+    ensures { IfOk result (λ answers. answers ≡ answers_of moment request.now.elements (C.doc core.old) request.now.subs) }
+{
+    let subs = request.subs.as_slice();
+    run_subs(alloc, core, moment, &request.elements, subs)
 }
 
 // The response of the new document of this GUID to a request that was read.
@@ -50,8 +65,7 @@ fn respond(
     ensures { IfOk result (λ bytes. bytes ≡ response (answers_of moment request.now.elements (empty_doc guid) request.now.subs)) }
 {
     let mut core = PlainCore::new(alloc, guid)?;
-    let subs = request.subs.as_slice();
-    let answers = run_subs(alloc, &mut core, moment, &request.elements, subs)?;
+    let answers = answers_on(alloc, &mut core, moment, request)?;
     write_cell_response(alloc, &answers)
 }
 

@@ -3,6 +3,8 @@
 
 mod answer;
 mod command;
+#[cfg(test)]
+mod document_tests;
 mod host;
 mod input;
 #[cfg(test)]

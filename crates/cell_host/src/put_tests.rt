@@ -13,12 +13,12 @@ use wire_requests::write_cell_request;
 use wire_responses::read_cell_response;
 
 /// The document's GUID, 00112233-4455-6677-8899-aabbccddeeff.
-const DOCUMENT: Guid = Guid {
+pub(crate) const DOCUMENT: Guid = Guid {
     number: 0x0011_2233_4455_6677_8899_aabb_ccdd_eeff,
 };
 
 /// Another GUID, whose numbers need not be drawn.
-const CLIENT: Guid = Guid { number: 7 };
+pub(crate) const CLIENT: Guid = Guid { number: 7 };
 
 /// The number of the error "invalid object".
 const INVALID_OBJECT: u32 = 2;
@@ -36,22 +36,22 @@ const NO_FILE: u32 = 23;
 const IMPLY_NULL: u8 = 0x01;
 
 /// The flag of a part of an upload.
-const PARTIAL: u8 = 0x02;
+pub(crate) const PARTIAL: u8 = 0x02;
 
 /// The flags of the last part of an upload.
-const LAST: u8 = 0x06;
+pub(crate) const LAST: u8 = 0x06;
 
 /// The flag that the expected index doesn't matter.
-const LAST_WRITER_WINS: u8 = 0x80;
+pub(crate) const LAST_WRITER_WINS: u8 = 0x80;
 
-fn id(value: u32) -> ExGuid {
+pub(crate) fn id(value: u32) -> ExGuid {
     ExGuid::Id {
         guid: CLIENT,
         value,
     }
 }
 
-fn put(index: ExGuid, expected: ExGuid, flags: u8) -> WireSub {
+pub(crate) fn put(index: ExGuid, expected: ExGuid, flags: u8) -> WireSub {
     WireSub {
         id: 1,
         kind: 5,
@@ -63,7 +63,7 @@ fn put(index: ExGuid, expected: ExGuid, flags: u8) -> WireSub {
     }
 }
 
-fn pull(alloc: Global, known: &[Range]) -> Result<WireSub, Fail> {
+pub(crate) fn pull(alloc: Global, known: &[Range]) -> Result<WireSub, Fail> {
     Ok(WireSub {
         id: 2,
         kind: 2,
@@ -84,7 +84,7 @@ fn draw(count: u64) -> WireSub {
 }
 
 /// A file cut into elements, with ids from 1 on.
-fn cut(alloc: Global, bytes: &[u8], guid: Guid) -> Result<Chunked, Fail> {
+pub(crate) fn cut(alloc: Global, bytes: &[u8], guid: Guid) -> Result<Chunked, Fail> {
     if bytes.len() > 16_777_216 {
         return Err("the file is too long".into());
     }
@@ -157,7 +157,7 @@ fn has_elements(response: &CellResponse, elements: &[Element]) -> bool {
 }
 
 /// A request with these sub-requests that brings these elements.
-fn request(subs: Vec<WireSub>, elements: Elements) -> CellRequest {
+pub(crate) fn request(subs: Vec<WireSub>, elements: Elements) -> CellRequest {
     CellRequest {
         subs: Seq::from_vec(subs),
         elements,
