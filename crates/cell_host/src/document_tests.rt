@@ -15,7 +15,7 @@ use std::test::Fail;
 use wire_requests::write_cell_request;
 
 /// The reply of the document to a request of one sub-request, which is written and read.
-fn reply(
+pub(crate) fn reply(
     alloc: Global,
     core: &mut PlainCore,
     moment: u32,
@@ -40,11 +40,11 @@ fn reply(
 }
 
 /// The reply to a pull of a client who knows this.
-fn seen(alloc: Global, core: &mut PlainCore, known: &[Range]) -> Result<Reply, Fail> {
+pub(crate) fn seen(alloc: Global, core: &mut PlainCore, known: &[Range]) -> Result<Reply, Fail> {
     reply(alloc, core, 400, pull(alloc, known)?, Seq::new(alloc))
 }
 
-fn range(from: u64, to: u64) -> Range {
+pub(crate) fn range(from: u64, to: u64) -> Range {
     Range {
         guid: DOCUMENT,
         from,
@@ -57,7 +57,7 @@ fn ranges(alloc: Global, list: &[Range]) -> Result<Ranges, Fail> {
 }
 
 /// The reply to what was put with these serial numbers.
-fn stored(alloc: Global, list: &[Range]) -> Result<Reply, Fail> {
+pub(crate) fn stored(alloc: Global, list: &[Range]) -> Result<Reply, Fail> {
     let knowledge = Knowledge {
         ranges: ranges(alloc, list)?,
     };
@@ -65,7 +65,7 @@ fn stored(alloc: Global, list: &[Range]) -> Result<Reply, Fail> {
 }
 
 /// The reply to a pull that brings the elements at these places, counted from 0, of all that were added.
-fn pulled(
+pub(crate) fn pulled(
     alloc: Global,
     index: ExGuid,
     added: &[Element],
@@ -116,7 +116,7 @@ fn root_of(element: &Element) -> Option<RevisionRoot> {
 }
 
 /// A list of one item.
-fn only<T: Drop>(alloc: Global, item: T) -> Result<Seq<T>, Fail> {
+pub(crate) fn only<T: Drop>(alloc: Global, item: T) -> Result<Seq<T>, Fail> {
     let mut items = Seq::new(alloc);
     items.push(item)?;
     Ok(items)
@@ -214,7 +214,7 @@ fn a_save_stands_on_the_one_before(rt: HostRuntime) -> Result<(), Fail> {
     Ok(())
 }
 
-fn refused(code: Code) -> Reply {
+pub(crate) fn refused(code: Code) -> Reply {
     Reply::Refused { code }
 }
 

@@ -13,6 +13,8 @@ mod serving;
 mod status;
 #[cfg(test)]
 mod tests;
+#[cfg(test)]
+mod upload_tests;
 
 use host::host_once;
 use host_edge::{StdSink, StdSource, SystemClock};

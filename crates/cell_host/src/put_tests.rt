@@ -27,10 +27,10 @@ const INVALID_OBJECT: u32 = 2;
 const COHERENCY: u32 = 12;
 
 /// "Referenced data element not found".
-const NOT_FOUND: u32 = 16;
+pub(crate) const NOT_FOUND: u32 = 16;
 
 /// "Request not serializable": what was put is no file.
-const NO_FILE: u32 = 23;
+pub(crate) const NO_FILE: u32 = 23;
 
 /// The flag that an expected index counts as null while there is none.
 const IMPLY_NULL: u8 = 0x01;
@@ -110,7 +110,7 @@ fn answered(alloc: Global, request: &CellRequest) -> Result<CellResponse, Fail> 
 }
 
 /// Whether the sub-request at this place is refused with this error.
-fn is_refused(response: &CellResponse, place: usize, number: u32) -> bool {
+pub(crate) fn is_refused(response: &CellResponse, place: usize, number: u32) -> bool {
     match response.answers.as_slice().get(place) {
         Some(seen) => seen.fault == Some(number),
         None => false,
@@ -118,7 +118,7 @@ fn is_refused(response: &CellResponse, place: usize, number: u32) -> bool {
 }
 
 /// Whether the sub-request at this place is answered with the knowledge of the numbers 1 to `to`, and no other.
-fn knows(response: &CellResponse, place: usize, to: u64) -> bool {
+pub(crate) fn knows(response: &CellResponse, place: usize, to: u64) -> bool {
     match response.answers.as_slice().get(place) {
         Some(seen) => seen.fault.is_none() && is_up_to(seen.knowledge.ranges.as_slice(), to),
         None => false,
@@ -252,7 +252,14 @@ fn comes_back(alloc: Global, size: usize, objects: usize) -> Result<bool, Fail> 
 fn files_of_all_heights_come_back(rt: HostRuntime) -> Result<(), Fail> {
     let alloc = rt.alloc();
     // a root and its leaves; the last file has 65 leaves, and two nodes above them
-    let files = [(0, 1), (1, 2), (65_536, 2), (65_537, 3), (4_194_305, 68)];
+    let files = [
+        (0, 1),
+        (1, 2),
+        (65_536, 2),
+        (65_537, 3),
+        (4_194_304, 65),
+        (4_194_305, 68),
+    ];
     for (size, objects) in files {
         assert!(rt; comes_back(alloc, size, objects)?);
     }
@@ -347,7 +354,11 @@ fn numbers_of_the_document_are_drawn_first(rt: HostRuntime) -> Result<(), Fail> 
 }
 
 /// The response to a put of this index with these elements, which expects null.
-fn put_alone(alloc: Global, index: ExGuid, elements: Elements) -> Result<CellResponse, Fail> {
+pub(crate) fn put_alone(
+    alloc: Global,
+    index: ExGuid,
+    elements: Elements,
+) -> Result<CellResponse, Fail> {
     let subs = vec![in alloc; put(index, ExGuid::Null, 0)]?;
     answered(alloc, &request(subs, elements))
 }
