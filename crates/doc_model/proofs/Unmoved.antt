@@ -1,19 +1,25 @@
 -- A call that doesn't move leaves the document equal.
-use Rattle.std.proofs.Common.{◌≡◌, ℕ, refl, Bool, true, false, cond, List, Option, Some, None}
+use Rattle.std.proofs.Common.{◌≡◌, ℕ, refl, Bool, true, false, not, cond, List, Option, Some, None}
+use Rattle.compact_values.specs.declared.guid.Guid.{Guid}
 use Rattle.doc_model.specs.declared.call.Put.{Put}
 use Rattle.doc_model.specs.declared.call.Sub.{Sub}
 use Rattle.doc_model.specs.declared.call.Sub.TheVariants as sub
+use Rattle.doc_model.specs.declared.doc.Commit.{Commit}
 use Rattle.doc_model.specs.declared.doc.Doc.{Doc}
 use Rattle.doc_model.specs.declared.lock.LockStep.{LockStep}
 use Rattle.doc_model.specs.declared.reply.Code.{Code}
+use Rattle.doc_model.specs.declared.reply.Code.TheVariants.{AlreadyLocked}
 use Rattle.doc_model.specs.Apply.{by_kind}
 use Rattle.doc_model.specs.Drawing.{draw, can_draw}
+use Rattle.doc_model.specs.Editing as editing
+use Rattle.doc_model.specs.Editing.{after_edit, editor_turn, live_editors}
 use Rattle.doc_model.specs.Laws.{UnmovedIsEqual}
 use Rattle.doc_model.specs.Locking.{after_lock}
-use Rattle.doc_model.specs.Locks.{live}
+use Rattle.doc_model.specs.Locks.{live, allowed}
 use Rattle.doc_model.specs.LockSteps.{LockTurn, becomes, stays, refuses, leaves, lock_turn}
 use Rattle.doc_model.specs.Puts.{put, is_part, part_refusal, commit_refusal, kept, committed}
 use Rattle.doc_model.specs.Turns.{Turn, unless, refused}
+use Rattle.doc_model.specs.Versions.{version, restore, restore_version, restore_refusal, restored}
 
 -- a turn that doesn't move leaves this document
 record Leaves (doc : Doc) (turn : Turn) : Type 0 where
@@ -47,12 +53,31 @@ lock_leaves doc m step (leaves new) = moving doc (after_lock doc m step (leaves 
 draw_leaves : (doc : Doc) (n : ℕ) → Leaves doc (draw doc n)
 draw_leaves doc n = either doc (can_draw doc n) _ _ (record { equal = λ h. cc }) (record { equal = λ h. refl })
 
+edit_leaves : (doc : Doc) (m : ℕ) (turn : editing.EditorTurn) → Leaves doc (after_edit doc m turn)
+edit_leaves doc m (editing.becomes new) = moving doc (after_edit doc m (editing.becomes new)) refl
+edit_leaves doc m editing.stays = staying doc (after_edit doc m editing.stays) refl
+edit_leaves doc m (editing.refuses c) = staying doc (after_edit doc m (editing.refuses c)) refl
+
+version_leaves : (doc : Doc) (m : ℕ) (user : List ℕ) (o : Option Commit) → Leaves doc (restore_version doc m user o)
+version_leaves doc m user None = staying doc (restore_version doc m user None) refl
+version_leaves doc m user (Some c) = unless_refused doc (restore_refusal doc c) (restored doc m user c) (moving doc (restored doc m user c) refl)
+
+restore_leaves : (doc : Doc) (m : ℕ) (user : List ℕ) (number : ℕ) (carried : Option Guid) → Leaves doc (restore doc m user number carried)
+restore_leaves doc m user number carried =
+    either doc (not (allowed (live doc.lock m) carried)) _ _ (staying doc (refused doc AlreadyLocked) refl) (version_leaves doc m user (version doc.commits number))
+
 kind_leaves : (doc : Doc) (m : ℕ) (user : List ℕ) (s : Sub) → Leaves doc (by_kind doc m user s)
 kind_leaves doc m user sub.Access = record { equal = λ h. refl }
 kind_leaves doc m user (sub.Pull known) = record { equal = λ h. refl }
 kind_leaves doc m user (sub.Put p) = put_leaves doc m user p
 kind_leaves doc m user (sub.Draw n) = draw_leaves doc n
 kind_leaves doc m user (sub.Lock step) = lock_leaves doc m step (lock_turn m step (live doc.lock m))
+kind_leaves doc m user (sub.Editor step) = edit_leaves doc m (editor_turn m user step (live_editors doc.editors m))
+kind_leaves doc m user sub.Versions = record { equal = λ h. refl }
+kind_leaves doc m user (sub.Restore number carried) = restore_leaves doc m user number carried
+kind_leaves doc m user sub.ReadFile = record { equal = λ h. refl }
+kind_leaves doc m user sub.AmIAlone = record { equal = λ h. refl }
+kind_leaves doc m user sub.WhoAmI = record { equal = λ h. refl }
 
 pub unmoved : UnmovedIsEqual
 unmoved doc call = (kind_leaves doc call.moment call.user call.sub).equal

@@ -3,16 +3,18 @@ use Rattle.std.specs.Prelude.{◌≡◌, ℕ, List, [], fold, Option, Some}
 use Rattle.compact_values.specs.declared.guid.Guid.{Guid}
 use Rattle.doc_model.specs.declared.call.Call.{Call}
 use Rattle.doc_model.specs.declared.call.Sub.{Sub}
-use Rattle.doc_model.specs.declared.call.Sub.TheVariants.{Access, Pull, Put, Draw, Lock}
+use Rattle.doc_model.specs.declared.call.Sub.TheVariants.{Access, Pull, Put, Draw, Lock, Editor, Versions, Restore, ReadFile, AmIAlone, WhoAmI}
 use Rattle.doc_model.specs.declared.core_trait.Plan.{Plan}
 use Rattle.doc_model.specs.declared.doc.Doc.{Doc}
 use Rattle.doc_model.specs.declared.lock.LockRecord.TheVariants.{Free}
 use Rattle.doc_model.specs.declared.reply.Reply.TheVariants as reply
 use Rattle.doc_model.specs.Drawing.{draw}
+use Rattle.doc_model.specs.Editing.{edit, is_alone}
 use Rattle.doc_model.specs.Locking.{do_lock}
 use Rattle.doc_model.specs.Pulls.{pull}
 use Rattle.doc_model.specs.Puts.{put}
 use Rattle.doc_model.specs.Turns.{Turn, reading}
+use Rattle.doc_model.specs.Versions.{last_file, restore}
 
 -- a document without anything
 abbrev pub empty_doc : Guid → Doc
@@ -25,6 +27,12 @@ by_kind doc moment user (Pull knowledge) = reading doc (pull doc knowledge.range
 by_kind doc moment user (Put p) = put doc moment user p
 by_kind doc moment user (Draw count) = draw doc count
 by_kind doc moment user (Lock step) = do_lock doc moment step
+by_kind doc moment user (Editor step) = edit doc moment user step
+by_kind doc moment user Versions = reading doc (reply.VersionList doc.commits)
+by_kind doc moment user (Restore number carried) = restore doc moment user number carried
+by_kind doc moment user ReadFile = reading doc (reply.File (last_file doc.added doc.commits))
+by_kind doc moment user AmIAlone = reading doc (reply.Lone (is_alone doc.editors moment))
+by_kind doc moment user WhoAmI = reading doc (reply.Me user)
 
 abbrev pub apply : Doc → Call → Turn
 apply doc call = by_kind doc call.moment call.user call.sub

@@ -27,8 +27,10 @@ pub mod Pulls
 pub mod Locks
 pub mod LockSteps
 pub mod Locking
+pub mod Editing
 pub mod Sound
 pub mod Puts
+pub mod Versions
 pub mod Apply
 pub mod NumberedElements
 pub mod SeenResponses

@@ -44,6 +44,10 @@ most_editors = 64
 abbrev pub most_keys : ℕ
 most_keys = 8
 
+-- bytes of a key, and of its value
+abbrev pub most_key_bytes : ℕ
+most_key_bytes = 1024
+
 -- elements of one package
 abbrev pub most_elements : ℕ
 most_elements = 8192

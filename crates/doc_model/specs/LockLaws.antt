@@ -69,6 +69,7 @@ KeepsMembers =
 -- a call carries this lock id
 abbrev pub Carries : Sub → Guid → Type 0
 Carries (sub.Put p) id = p.carried ≡ Some id
+Carries (sub.Restore number carried) id = carried ≡ Some id
 Carries _ id = ⊥
 
 -- the lock is free, or the call carries its exclusive lock id or its schema id

@@ -6,7 +6,7 @@ use Rattle.compact_values.specs.declared.ids.ExGuid.TheVariants.{Null, Id}
 use Rattle.compact_values.specs.SameIds.{same_guid, same_id}
 use Rattle.doc_model.specs.declared.call.Call.{Call}
 use Rattle.doc_model.specs.declared.call.Sub.{Sub}
-use Rattle.doc_model.specs.declared.call.Sub.TheVariants.{Put, Lock}
+use Rattle.doc_model.specs.declared.call.Sub.TheVariants as sub
 use Rattle.doc_model.specs.declared.doc.Doc.{Doc}
 use Rattle.doc_model.specs.declared.doc.Commit.{Commit}
 use Rattle.doc_model.specs.declared.doc.Part.{Part}
@@ -15,6 +15,7 @@ use Rattle.doc_model.specs.declared.element.Element.{Element}
 use Rattle.doc_model.specs.declared.lock.LockRecord.{LockRecord}
 use Rattle.doc_model.specs.declared.lock.LockRecord.TheVariants.{Free, Exclusive, Shared}
 use Rattle.doc_model.specs.Drawing.{last_number}
+use Rattle.doc_model.specs.Editing.{editor_timeout_of}
 use Rattle.doc_model.specs.Files.{file}
 use Rattle.doc_model.specs.Limits.{day, most_added, most_added_weight, most_parts, most_parts_weight, most_sharing, most_editors, most_elements, most_keys, most_objects, most_file, most_reached_weight}
 use Rattle.doc_model.specs.LockSteps.{timeout_of}
@@ -84,8 +85,9 @@ IsValidTimeout t = (60 ≤ t) × (t ≤ day)
 
 -- what is put is one package of elements, each written in few enough stream objects to be read again; a timeout is valid
 abbrev pub IsValidSub : Sub → Type 0
-IsValidSub (Put p) = (length p.elements ≤ most_elements) × All (λ e. objects_written e ≤ most_objects) p.elements
-IsValidSub (Lock step) = IfSome (timeout_of step) IsValidTimeout
+IsValidSub (sub.Put p) = (length p.elements ≤ most_elements) × All (λ e. objects_written e ≤ most_objects) p.elements
+IsValidSub (sub.Lock step) = IfSome (timeout_of step) IsValidTimeout
+IsValidSub (sub.Editor step) = IfSome (editor_timeout_of step) IsValidTimeout
 IsValidSub _ = Unit {0}
 
 -- A call that may be made.

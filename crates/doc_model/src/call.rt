@@ -1,3 +1,4 @@
+use crate::editor::EditorStep;
 use crate::element::Elements;
 use crate::knowledge::Knowledge;
 use crate::lock::LockStep;
@@ -39,4 +40,19 @@ pub enum Sub {
     Draw { count: u64 },
     /// A step of the document's lock (MS-FSSHTTP 3.1.4.3 to 3.1.4.5).
     Lock { step: LockStep },
+    /// A step of the table of editors (MS-FSSHTTP 3.1.4.8).
+    Editor { step: EditorStep },
+    /// The versions.
+    Versions,
+    /// Commit anew what this version is, the first one being version 1. `carried` is the lock id that the caller names.
+    Restore {
+        number: u64,
+        carried: Option<Guid>,
+    },
+    /// The file.
+    ReadFile,
+    /// Whether at most one client edits the document.
+    AmIAlone,
+    /// The caller's user.
+    WhoAmI,
 }
