@@ -18,7 +18,8 @@ use Rattle.doc_model.specs.LockLaws.{EndsExclusive, SetsExclusive, StaysExclusiv
 use Rattle.doc_model.specs.LockSteps.{LockTurn, becomes, refuses, stays, lock_turn, lock_after, lock_moved, member}
 use Rattle.doc_model.specs.Locks.{live, shared_by, is_live}
 use Rattle.doc_model.specs.Puts.{put}
-use Rattle.doc_model.proofs.OtherLocks.{put-lock, draw-lock}
+use Rattle.doc_model.specs.Versions.{restore}
+use Rattle.doc_model.proofs.OtherLocks.{put-lock, draw-lock, restore-lock}
 
 -- by a test, and by whether two ids are one
 pub by-test : (b : Bool) (P : Bool → Type 0) → (b ≡ true → P true) → (b ≡ false → P false) → P b
@@ -93,6 +94,12 @@ module _ (doc : Doc) (m : ℕ) (user : List ℕ) (id : Guid) (u : ℕ) (e : live
   kind-keeps (sub.Pull knowledge) = as-before (sub.Pull knowledge) doc.lock refl
   kind-keeps (sub.Put p) = as-before (sub.Put p) (put doc m user p).doc.lock (put-lock doc m user p)
   kind-keeps (sub.Draw count) = as-before (sub.Draw count) (draw doc count).doc.lock (draw-lock doc count)
+  kind-keeps (sub.Editor step) = as-before (sub.Editor step) doc.lock refl
+  kind-keeps sub.Versions = as-before sub.Versions doc.lock refl
+  kind-keeps (sub.Restore number carried) = as-before (sub.Restore number carried) (restore doc m user number carried).doc.lock (restore-lock doc m user number carried)
+  kind-keeps sub.ReadFile = as-before sub.ReadFile doc.lock refl
+  kind-keeps sub.AmIAlone = as-before sub.AmIAlone doc.lock refl
+  kind-keeps sub.WhoAmI = as-before sub.WhoAmI doc.lock refl
   kind-keeps (sub.Lock s) =
       subst (λ (x : LockRecord). KeptBy (sub.Lock s) (cond (lock_moved (lock_turn m s x)) (lock_after x (lock_turn m s x)) doc.lock)) (sym e)
       (exclusive-kept id u m doc.lock is s)

@@ -21,7 +21,8 @@ use Rattle.doc_model.specs.LockLaws.{EndsMember, SetsMember, IsStill, StaysMembe
 use Rattle.doc_model.specs.LockSteps.{LockTurn, becomes, refuses, stays, leaves, lock_turn, lock_after, lock_moved, member, is_client, others, with_client}
 use Rattle.doc_model.specs.Locks.{live, shared_by, is_live}
 use Rattle.doc_model.specs.Puts.{put}
-use Rattle.doc_model.proofs.OtherLocks.{put-lock, draw-lock}
+use Rattle.doc_model.specs.Versions.{restore}
+use Rattle.doc_model.proofs.OtherLocks.{put-lock, draw-lock, restore-lock}
 use Rattle.doc_model.proofs.EachItem.{each-as}
 use Rattle.doc_model.proofs.KeepsLock.{by-test, by-same}
 
@@ -226,6 +227,12 @@ module _ (doc : Doc) (m : ℕ) (user : List ℕ) (schema : Guid) (members : List
   kind-keeps (sub.Pull knowledge) = as-before (sub.Pull knowledge) doc.lock refl
   kind-keeps (sub.Put p) = as-before (sub.Put p) (put doc m user p).doc.lock (put-lock doc m user p)
   kind-keeps (sub.Draw count) = as-before (sub.Draw count) (draw doc count).doc.lock (draw-lock doc count)
+  kind-keeps (sub.Editor step) = as-before (sub.Editor step) doc.lock refl
+  kind-keeps sub.Versions = as-before sub.Versions doc.lock refl
+  kind-keeps (sub.Restore number carried) = as-before (sub.Restore number carried) (restore doc m user number carried).doc.lock (restore-lock doc m user number carried)
+  kind-keeps sub.ReadFile = as-before sub.ReadFile doc.lock refl
+  kind-keeps sub.AmIAlone = as-before sub.AmIAlone doc.lock refl
+  kind-keeps sub.WhoAmI = as-before sub.WhoAmI doc.lock refl
   kind-keeps (sub.Lock s) =
       subst (λ (x : LockRecord). KeptBy (sub.Lock s) (cond (lock_moved (lock_turn m s x)) (lock_after x (lock_turn m s x)) doc.lock)) (sym e)
       (members-kept schema members m doc.lock are s)

@@ -1,12 +1,17 @@
 -- Calls that are no lock steps leave the lock as it is.
-use Rattle.std.proofs.Common.{◌≡◌, ℕ, refl, Bool, true, false, cond, List, Option, Some, None}
+use Rattle.std.proofs.Common.{◌≡◌, ℕ, refl, Bool, true, false, not, cond, List, Option, Some, None}
+use Rattle.compact_values.specs.declared.guid.Guid.{Guid}
 use Rattle.doc_model.specs.declared.call.Put.{Put}
+use Rattle.doc_model.specs.declared.doc.Commit.{Commit}
 use Rattle.doc_model.specs.declared.doc.Doc.{Doc}
 use Rattle.doc_model.specs.declared.lock.LockRecord.{LockRecord}
 use Rattle.doc_model.specs.declared.reply.Code.{Code}
+use Rattle.doc_model.specs.declared.reply.Code.TheVariants.{AlreadyLocked}
 use Rattle.doc_model.specs.Drawing.{can_draw, draw}
+use Rattle.doc_model.specs.Locks.{live, allowed}
 use Rattle.doc_model.specs.Puts.{put, is_part, part_refusal, commit_refusal, kept, committed}
-use Rattle.doc_model.specs.Turns.{Turn, unless}
+use Rattle.doc_model.specs.Turns.{Turn, refused, unless}
+use Rattle.doc_model.specs.Versions.{version, restore, restore_version, restore_refusal, restored}
 
 chosen : (b : Bool) (x y : Turn) (l : LockRecord) → x.doc.lock ≡ l → y.doc.lock ≡ l → (cond b x y).doc.lock ≡ l
 chosen true x y l p q = p
@@ -23,3 +28,12 @@ put-lock doc m user p =
 
 pub draw-lock : (doc : Doc) (count : ℕ) → (draw doc count).doc.lock ≡ doc.lock
 draw-lock doc count = chosen (can_draw doc count) _ _ doc.lock refl refl
+
+version-lock : (doc : Doc) (m : ℕ) (user : List ℕ) (o : Option Commit) → (restore_version doc m user o).doc.lock ≡ doc.lock
+version-lock doc m user None = refl
+version-lock doc m user (Some c) = unless-lock (restore_refusal doc c) doc (restored doc m user c) refl
+
+pub restore-lock : (doc : Doc) (m : ℕ) (user : List ℕ) (number : ℕ) (carried : Option Guid) → (restore doc m user number carried).doc.lock ≡ doc.lock
+restore-lock doc m user number carried =
+    chosen (not (allowed (live doc.lock m) carried)) (refused doc AlreadyLocked) (restore_version doc m user (version doc.commits number)) doc.lock
+    refl (version-lock doc m user (version doc.commits number))
