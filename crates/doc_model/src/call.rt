@@ -45,10 +45,7 @@ pub enum Sub {
     /// The versions.
     Versions,
     /// Commit anew what this version is, the first one being version 1. `carried` is the lock id that the caller names.
-    Restore {
-        number: u64,
-        carried: Option<Guid>,
-    },
+    Restore { number: u64, carried: Option<Guid> },
     /// The file.
     ReadFile,
     /// Whether at most one client edits the document.
