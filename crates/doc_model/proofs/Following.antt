@@ -1,5 +1,5 @@
 -- Elements and versions are only added, and the file at a version stays.
-use Rattle.std.proofs.Common.{◌≡◌, ℕ, ◌+◌, refl, sym, ◌∙◌, ap, subst, append_assoc, Bool, true, false, cond, List, [], ◌∷◌, ◌++◌, get_or, Option, Some, None}
+use Rattle.std.proofs.Common.{◌≡◌, ℕ, ◌+◌, refl, sym, ◌∙◌, ap, subst, append_assoc, Bool, true, false, not, cond, List, [], ◌∷◌, ◌++◌, get_or, Option, Some, None}
 use Rattle.std.proofs.lemmas.List.{append-nil}
 use Rattle.std.proofs.lemmas.List.Elements.{All-from_recursion, recursion_from_All, All-weaker}
 use Rattle.std.specs.List.{AllByRecursion as Each, All}
@@ -13,12 +13,15 @@ use Rattle.doc_model.specs.declared.element.Element.{Element}
 use Rattle.doc_model.specs.declared.reply.Code.{Code}
 use Rattle.doc_model.specs.Apply.{apply, by_kind, replay}
 use Rattle.doc_model.specs.Drawing.{can_draw}
+use Rattle.doc_model.specs.Editing.{edit}
 use Rattle.doc_model.specs.Files.{file}
 use Rattle.doc_model.specs.Laws.{Follows, CallsFollow, HistoriesFollow}
 use Rattle.doc_model.specs.Locking.{do_lock}
+use Rattle.doc_model.specs.Locks.{live, allowed}
 use Rattle.doc_model.specs.Puts.{is_part, part_refusal, commit_refusal, kept, committed, fresh, sent_to}
 use Rattle.doc_model.specs.Sound.{IsSoundCommit, Sound, Valid}
 use Rattle.doc_model.specs.Turns.{Turn, unless}
+use Rattle.doc_model.specs.Versions.{version, restore_version, restore_refusal, restored, index_like, new_index}
 use Rattle.doc_model.proofs.Added.{file-stays}
 use Rattle.doc_model.proofs.EachItem.{each-as, each-both, each-front}
 use Rattle.doc_model.proofs.KeepsSound.{keeps-sound}
@@ -58,6 +61,20 @@ module _ (doc : Doc) (s : Sound doc) where
     files = files-stay (fresh doc.added (sent_to doc p));
   }
 
+  -- a restore adds an element and a version
+  restored-follows : (m : ℕ) (user : List ℕ) (c : Commit) → Follows doc (restored doc m user c).doc
+  restored-follows m user c = record {
+    more = index_like doc.added (new_index doc) c.index ∷ [];
+    added = refl;
+    versions = record { index = new_index doc; moment = m; user = user } ∷ [];
+    commits = refl;
+    files = files-stay (index_like doc.added (new_index doc) c.index ∷ []);
+  }
+
+  version-follows : (m : ℕ) (user : List ℕ) (o : Option Commit) → Follows doc (restore_version doc m user o).doc
+  version-follows m user None = same-content doc doc refl refl
+  version-follows m user (Some c) = unless-refused doc (restore_refusal doc c) (restored doc m user c) (restored-follows m user c)
+
   kind-follows : (m : ℕ) (user : List ℕ) (what : Sub) → Follows doc (by_kind doc m user what).doc
   kind-follows m user sub.Access = same-content doc doc refl refl
   kind-follows m user (sub.Pull knowledge) = same-content doc doc refl refl
@@ -67,6 +84,13 @@ module _ (doc : Doc) (s : Sound doc) where
   kind-follows m user (sub.Lock step) = same-content doc (do_lock doc m step).doc refl refl
   kind-follows m user (sub.Draw count) =
       either doc (can_draw doc count) _ _ (same-content doc (record doc { drawn = doc.drawn + count }) refl refl) (same-content doc doc refl refl)
+  kind-follows m user (sub.Editor step) = same-content doc (edit doc m user step).doc refl refl
+  kind-follows m user sub.Versions = same-content doc doc refl refl
+  kind-follows m user (sub.Restore number carried) =
+      either doc (not (allowed (live doc.lock m) carried)) _ _ (same-content doc doc refl refl) (version-follows m user (version doc.commits number))
+  kind-follows m user sub.ReadFile = same-content doc doc refl refl
+  kind-follows m user sub.AmIAlone = same-content doc doc refl refl
+  kind-follows m user sub.WhoAmI = same-content doc doc refl refl
 
 pub calls-follow : CallsFollow
 calls-follow doc call s = kind-follows doc s call.moment call.user call.sub

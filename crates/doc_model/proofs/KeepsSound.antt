@@ -1,9 +1,10 @@
 -- Every call that may be made leaves a document sound.
-use Rattle.std.proofs.Common.{◌≡◌, ◌≢◌, ℕ, ◌+◌, ◌≤◌, refl, sym, ◌∙◌, subst, Bool, true, false, ◌&&◌, cond, List, [], length, map, nat_le, nat_lt, Option, Some, None, arith}
+use Rattle.std.proofs.Common.{◌≡◌, ◌≢◌, ℕ, ◌+◌, ◌≤◌, refl, sym, ◌∙◌, subst, Bool, true, false, not, ◌&&◌, cond, List, [], length, map, nat_le, nat_lt, Option, Some, None, arith}
 use Rattle.std.proofs.lemmas.Bool.Decides.{nat_tests}
 use Rattle.std.proofs.lemmas.List.{append-nil}
 use Rattle.std.proofs.lemmas.List.Elements.{All-from_recursion, All-append, All-nil, All-push, All-weaker}
 use Rattle.std.specs.List.{AllByRecursion as Each, All, IsDistinct}
+use Rattle.compact_values.specs.declared.guid.Guid.{Guid}
 use Rattle.compact_values.specs.declared.ids.ExGuid.TheVariants.{Null}
 use Rattle.compact_values.specs.SameIds.{same_id}
 use Rattle.doc_model.specs.declared.call.Put.{Put}
@@ -11,23 +12,30 @@ use Rattle.doc_model.specs.declared.call.Sub.{Sub}
 use Rattle.doc_model.specs.declared.call.Sub.TheVariants as sub
 use Rattle.doc_model.specs.declared.doc.Doc.{Doc}
 use Rattle.doc_model.specs.declared.doc.Commit.{Commit}
+use Rattle.doc_model.specs.declared.editor.Editor.{Editor}
 use Rattle.doc_model.specs.declared.element.Element.{Element}
 use Rattle.doc_model.specs.declared.lock.LockRecord.{LockRecord}
 use Rattle.doc_model.specs.declared.reply.Code.{Code}
 use Rattle.doc_model.specs.Apply.{by_kind}
+use Rattle.doc_model.specs.Editing.{edit}
 use Rattle.doc_model.specs.Drawing.{draw, can_draw, last_number}
 use Rattle.doc_model.specs.Laws.{KeepsSound, EmptyIsSound}
 use Rattle.doc_model.specs.Locking.{do_lock}
 use Rattle.doc_model.specs.Limits.{most_added, most_added_weight, most_objects}
+use Rattle.doc_model.specs.Locks.{live, allowed}
 use Rattle.doc_model.specs.Puts.{put, is_part, part_reasons, commit_reasons, kept, committed, sent_to, added_by, fresh, other_parts, has_invalid, too_many_parts}
 use Rattle.doc_model.specs.Sound.{IsSoundElement, IsSoundCommit, AreSoundParts, AreSoundMembers, AreSoundEditors, Sound, IsValidSub}
 use Rattle.doc_model.specs.Turns.{Turn, first_refusal, unless}
+use Rattle.doc_model.specs.Versions.{version, restore, restore_version, restore_reasons, restored, added_by_restore}
 use Rattle.doc_model.specs.Weights.{objects_written, weight_of}
 use Rattle.doc_model.proofs.Distinct.{distinct-none}
 use Rattle.doc_model.proofs.EachItem.{each-as}
+use Rattle.doc_model.proofs.LastCommit.{All-version}
 use Rattle.doc_model.proofs.SoundCommits.{commit-later, commit-new, distinct-commits}
+use Rattle.doc_model.proofs.SoundEditors.{editors-sound}
 use Rattle.doc_model.proofs.SoundElements.{IsOwned, each-fresh, each-owned, each-sound, element-later, distinct-added, fresh-new}
 use Rattle.doc_model.proofs.SoundLocks.{lock-sound}
+use Rattle.doc_model.proofs.SoundRestore.{restored-sound}
 use Rattle.doc_model.proofs.SoundParts.{others-sound, parts-later, sent-few, with-part}
 use Rattle.doc_model.proofs.Reasons.{NoneHolds, and-both, none-holds, not-less, or-neither}
 
@@ -102,6 +110,9 @@ module _ (doc : Doc) (s : Sound doc) where
   pub with-lock : (lock : LockRecord) → AreSoundMembers lock → Sound (record doc { lock = lock })
   with-lock lock m = same-content doc (record doc { lock = lock }) s (unmoved-content (record doc { lock = lock }) refl refl refl refl) s.parts m s.editors
 
+  pub with-editors : (editors : List Editor) → AreSoundEditors editors → Sound (record doc { editors = editors })
+  with-editors editors e = same-content doc (record doc { editors = editors }) s (unmoved-content (record doc { editors = editors }) refl refl refl refl) s.parts s.members e
+
   module _ (moment : ℕ) (user : List ℕ) (p : Put) (few : All (λ e. objects_written e ≤ most_objects) p.elements) where
     abbrev es : List Element
     es = sent_to doc p
@@ -158,12 +169,29 @@ module _ (doc : Doc) (s : Sound doc) where
         (λ h. unless-refused (part_reasons doc moment p es) doc (kept doc moment p) s (λ none. kept-sound none.1.0 none.1.1.0))
         (unless-refused (commit_reasons doc moment p es (added_by doc p)) doc (committed doc moment user p) s committed-sound)
 
+  -- a restore
+  version-sound : (moment : ℕ) (user : List ℕ) (o : Option Commit) → ((c : Commit) → o ≡ Some c → IsSoundCommit doc c) → Sound (restore_version doc moment user o).doc
+  version-sound moment user None h = s
+  version-sound moment user (Some c) h =
+      unless-refused (restore_reasons doc (added_by_restore doc c)) doc (restored doc moment user c) s (λ none. restored-sound doc s c (h c refl) moment user none)
+
+  restore-sound : (moment : ℕ) (user : List ℕ) (number : ℕ) (carried : Option Guid) → Sound (restore doc moment user number carried).doc
+  restore-sound moment user number carried =
+      either (not (allowed (live doc.lock moment) carried)) _ _ (λ h. s)
+      (version-sound moment user (version doc.commits number) (λ c e. All-version (IsSoundCommit doc) doc.commits number c s.commits e))
+
   kind-sound : (moment : ℕ) (user : List ℕ) (what : Sub) → IsValidSub what → Sound (by_kind doc moment user what).doc
   kind-sound moment user sub.Access v = s
   kind-sound moment user (sub.Pull knowledge) v = s
   kind-sound moment user (sub.Put p) v = put-sound moment user p v.1
   kind-sound moment user (sub.Draw count) v = draw-sound count
   kind-sound moment user (sub.Lock step) v = with-lock (do_lock doc moment step).doc.lock (lock-sound doc.lock moment step s.members)
+  kind-sound moment user (sub.Editor step) v = with-editors (edit doc moment user step).doc.editors (editors-sound doc.editors moment user step s.editors)
+  kind-sound moment user sub.Versions v = s
+  kind-sound moment user (sub.Restore number carried) v = restore-sound moment user number carried
+  kind-sound moment user sub.ReadFile v = s
+  kind-sound moment user sub.AmIAlone v = s
+  kind-sound moment user sub.WhoAmI v = s
 
 pub keeps-sound : KeepsSound
 keeps-sound doc call s v = kind-sound doc s call.moment call.user call.sub v.sub

@@ -1,5 +1,5 @@
 -- The last commit of a document, whose index is the stored one.
-use Rattle.std.proofs.Common.{◌≡◌, ◌≢◌, ℕ, zero, suc, ◌-◌, refl, ap, subst, false, ◌==◌, List, [], ◌∷◌, ◌++◌, get_or, length, Option, Some, option_map, unwrap_or, arith}
+use Rattle.std.proofs.Common.{◌≡◌, ◌≢◌, ℕ, zero, suc, ◌-◌, refl, ap, subst, Bool, true, false, cond, ◌==◌, List, [], ◌∷◌, ◌++◌, get_or, length, Option, Some, None, option_map, unwrap_or, arith}
 use Rattle.std.proofs.lemmas.Bool.Decides.{nat_tests}
 use Rattle.std.proofs.lemmas.List.{append-nil, length-append}
 use Rattle.std.proofs.lemmas.Option.{slice_get-get_or, slice_get_within, get_or_from_slice_get}
@@ -7,6 +7,7 @@ use Rattle.std.specs.List.{All, slice_get}
 use Rattle.compact_values.specs.declared.ids.ExGuid.TheVariants.{Null}
 use Rattle.doc_model.specs.declared.doc.Commit.{Commit}
 use Rattle.doc_model.specs.Pulls.{stored_index}
+use Rattle.doc_model.specs.Versions.{version}
 
 pub some-commits : (cs : List Commit) → cs ≢ [] → (length cs == 0) ≡ false
 some-commits [] h = absurd (h refl)
@@ -22,6 +23,14 @@ last-commit (x ∷ xs) h =
 -- what holds of all holds at a place
 pub All-slice : {X : Type 0} (P : X → Type 0) (xs : List X) (i : ℕ) (x : X) → All P xs → slice_get xs i ≡ Some x → P x
 All-slice P xs i x h e = subst P (get_or_from_slice_get xs i x x e) (h i x (slice_get_within xs i x e))
+
+-- and of a version
+pub All-version : (P : Commit → Type 0) (cs : List Commit) (number : ℕ) (c : Commit) → All P cs → version cs number ≡ Some c → P c
+All-version P cs number c h e = at (number == 0) e
+  where
+    at : (b : Bool) → cond b None (slice_get cs (number - 1)) ≡ Some c → P c
+    at true e = cc
+    at false e = All-slice P cs (number - 1) c h e
 
 -- a place of the front is one of the whole
 pub slice-front : {X : Type 0} (xs ys : List X) (i : ℕ) (x : X) → slice_get xs i ≡ Some x → slice_get (xs ++ ys) i ≡ Some x

@@ -22,6 +22,10 @@ pub mod SizeBounds
 pub mod LastCommit
 pub mod SameIndex
 pub mod SoundLocks
+pub mod Placed
+pub mod SoundEditors
+pub mod LikeIndex
+pub mod SoundRestore
 pub mod Reasons
 pub mod SameContents
 pub mod OtherLocks

@@ -101,7 +101,7 @@ exact-root = exact-via (λ r. r.root) (λ r. r.cell) (λ a b. record { root = a;
 exact-revision-root : Exact same_revision_root
 exact-revision-root = exact-via (λ r. r.root) (λ r. r.object) (λ a b. record { root = a; object = b }) (λ r. refl) exact-id exact-id
 
-exact-bytes : Exact bytes_eq
+pub exact-bytes : Exact bytes_eq
 exact-bytes = exact-list exact-number
 
 content-equal : (a b : Content) → same_content a b ≡ true → a ≡ b

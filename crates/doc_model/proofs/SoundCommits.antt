@@ -42,7 +42,7 @@ reached-named added index es h = by-index (said as_index added index) h
     by-index (Some maps) h = by-tests (list_all (λ n. n.found) (names added index)) (chains_end added maps) (reached_from added index) h
 
 -- what is new is not named by an index of which all is there
-new-not-found : (added : List Element) (e : Element) → IsNew added e → find_element added e.id ≡ None
+pub new-not-found : (added : List Element) (e : Element) → IsNew added e → find_element added e.id ≡ None
 new-not-found [] e n = refl
 new-not-found (x ∷ xs) e n = at (same_id x.id e.id) refl (new-not-found xs e n.1)
   where
