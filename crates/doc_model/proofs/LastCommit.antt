@@ -1,7 +1,7 @@
 -- The last commit of a document, whose index is the stored one.
-use Rattle.std.proofs.Common.{◌≡◌, ◌≢◌, ℕ, zero, suc, ◌-◌, refl, ap, subst, Bool, true, false, cond, ◌==◌, List, [], ◌∷◌, ◌++◌, get_or, length, Option, Some, None, option_map, unwrap_or, arith}
+use Rattle.std.proofs.Common.{◌≡◌, ◌≢◌, ℕ, zero, suc, ◌-◌, refl, ◌∙◌, ap, subst, Bool, true, false, cond, ◌==◌, List, [], ◌∷◌, ◌++◌, get_or, length, Option, Some, None, option_map, unwrap_or, arith}
 use Rattle.std.proofs.lemmas.Bool.Decides.{nat_tests}
-use Rattle.std.proofs.lemmas.List.{append-nil, length-append}
+use Rattle.std.proofs.lemmas.List.{append-nil, get_or_push, length-append, length_push}
 use Rattle.std.proofs.lemmas.Option.{slice_get-get_or, slice_get_within, get_or_from_slice_get}
 use Rattle.std.specs.List.{All, slice_get}
 use Rattle.compact_values.specs.declared.ids.ExGuid.TheVariants.{Null}
@@ -19,6 +19,13 @@ last-commit [] h = absurd (h refl)
 last-commit (x ∷ xs) h =
     let e = slice_get-get_or (x ∷ xs) (length (x ∷ xs) - 1) x (omega arith) in
     (get_or (x ∷ xs) (length (x ∷ xs) - 1) x, e, ap (λ (o : Option Commit). unwrap_or (option_map (λ c. c.index) o) Null) e)
+
+-- a commit that comes last is the last one
+pub stored-push : (cs : List Commit) (c : Commit) → stored_index (cs ++ c ∷ []) ≡ c.index
+stored-push cs c =
+    let last = length (cs ++ c ∷ []) - 1 in
+    ap (λ (o : Option Commit). unwrap_or (option_map (λ x. x.index) o) Null)
+    (slice_get-get_or (cs ++ c ∷ []) last c (omega (arith, length_push cs c)) ∙ ap (λ (x : Commit). Some x) (get_or_push cs c c last (omega (arith, length_push cs c))))
 
 -- what holds of all holds at a place
 pub All-slice : {X : Type 0} (P : X → Type 0) (xs : List X) (i : ℕ) (x : X) → All P xs → slice_get xs i ≡ Some x → P x

@@ -26,6 +26,8 @@ pub mod Placed
 pub mod SoundEditors
 pub mod LikeIndex
 pub mod SoundRestore
+pub mod NewIndex
+pub mod Restoring
 pub mod Reasons
 pub mod SameContents
 pub mod OtherLocks

@@ -1,5 +1,5 @@
 -- What holds of every document and every call.
-use Rattle.std.specs.Prelude.{◌≡◌, ◌≢◌, ◌⊎◌, ℕ, true, false, IsTrue, List, [], ◌++◌, map, Some, None, is_some}
+use Rattle.std.specs.Prelude.{◌≡◌, ◌≢◌, ◌⊎◌, ℕ, ◌+◌, true, false, IsTrue, List, [], ◌∷◌, ◌++◌, length, map, drop, Option, Some, None, is_some}
 use Rattle.std.specs.List.{All, list_all, slice_get}
 use Rattle.compact_values.specs.declared.guid.Guid.{Guid}
 use Rattle.compact_values.specs.declared.ids.ExGuid.{ExGuid}
@@ -18,6 +18,7 @@ use Rattle.doc_model.specs.Pulls.{stored_index, pull}
 use Rattle.doc_model.specs.Puts.{put}
 use Rattle.doc_model.specs.Reached.{names, reached}
 use Rattle.doc_model.specs.Sound.{Sound, Valid}
+use Rattle.doc_model.specs.Versions.{version, restore}
 
 -- A call that doesn't move leaves the document equal.
 abbrev pub UnmovedIsEqual : Type 0
@@ -37,6 +38,12 @@ CommitsOnStored =
 abbrev pub OneCommitOfIndex : Type 0
 OneCommitOfIndex =
     (doc : Doc) (i j : ℕ) (a b : Commit) → Sound doc → slice_get doc.commits i ≡ Some a → slice_get doc.commits j ≡ Some b → a.index ≡ b.index → i ≡ j
+
+-- Where a call changes the commits, they are the old ones and one more, under an index that none of them has.
+abbrev pub CommitsNewIndex : Type 0
+CommitsNewIndex =
+    (doc : Doc) (call : Call) → Sound doc → (apply doc call).doc.commits ≢ doc.commits
+    → (c : Commit) × ((apply doc call).doc.commits ≡ doc.commits ++ c ∷ []) × All (λ x. x.index ≢ c.index) doc.commits
 
 -- Where the stored index is the same as it was, nothing was committed in between.
 abbrev pub EqualIndexEqualCommits : Type 0
@@ -113,3 +120,16 @@ CallsFollow = (doc : Doc) (call : Call) → Sound doc → Follows doc (apply doc
 abbrev pub HistoriesFollow : Type 0
 HistoriesFollow =
     (doc : Doc) (calls : List (ℕ × Call)) → Sound doc → All (λ item. Valid item.1) calls → Sound (replay doc calls) × Follows doc (replay doc calls)
+
+-- A later document has one more version, at whose index the file is that of an earlier one, and which names the same below
+-- itself.
+pub record Restores (doc later : Doc) (c : Commit) : Type 0 where
+  pub one_more : length later.commits ≡ length doc.commits + 1
+  pub file : file later.added (stored_index later.commits) ≡ file doc.added c.index
+  pub below : drop 1 (names later.added (stored_index later.commits)) ≡ drop 1 (names doc.added c.index)
+
+-- A restore of a version that isn't refused does that.
+abbrev pub RestoresTheFile : Type 0
+RestoresTheFile =
+    (doc : Doc) (moment : ℕ) (user : List ℕ) (number : ℕ) (carried : Option Guid) (c : Commit) → Sound doc → version doc.commits number ≡ Some c
+    → (restore doc moment user number carried).moved ≡ true → Restores doc (restore doc moment user number carried).doc c

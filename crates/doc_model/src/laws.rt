@@ -1,5 +1,5 @@
 //! Laws of the definitions: each function's contract is one, and it does nothing.
-ghost use Rattle.doc_model.specs.Laws.{UnmovedIsEqual, CommitsOnStored, OneCommitOfIndex, EqualIndexEqualCommits, NamesStay, ReachedStays, ChainStays, FileStays, DownloadsTheFile, DownloadsWhatIsReached, DownloadsNothing, KeepsSound, EmptyIsSound, CallsFollow, HistoriesFollow};
+ghost use Rattle.doc_model.specs.Laws.{UnmovedIsEqual, CommitsOnStored, OneCommitOfIndex, CommitsNewIndex, EqualIndexEqualCommits, NamesStay, ReachedStays, ChainStays, FileStays, DownloadsTheFile, DownloadsWhatIsReached, DownloadsNothing, KeepsSound, EmptyIsSound, CallsFollow, HistoriesFollow, RestoresTheFile};
 ghost use Rattle.doc_model.specs.LockLaws.{CommitsUnderLock};
 
 /// A call that doesn't move leaves the document equal.
@@ -13,6 +13,11 @@ pub fn commits_on_the_stored_index()
     ensures expected { CommitsOnStored }
     ensures one { OneCommitOfIndex }
     ensures same { EqualIndexEqualCommits }
+{}
+
+/// Where a call changes the versions, it adds one, under an index that none of them has. So an index is committed once.
+pub fn an_index_is_committed_once()
+    ensures { CommitsNewIndex }
 {}
 
 /// Where the versions change, no live lock was there, or the call carried its id.
@@ -47,4 +52,10 @@ pub fn every_call_keeps_sound()
 pub fn the_file_at_a_version_stays()
     ensures call { CallsFollow }
     ensures calls { HistoriesFollow }
+{}
+
+/// A restore that isn't refused adds a version, which has the file of the restored one and names the same elements below
+/// its index.
+pub fn a_restore_gives_the_file()
+    ensures { RestoresTheFile }
 {}
