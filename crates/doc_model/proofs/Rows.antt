@@ -20,7 +20,9 @@ use Rattle.doc_model.specs.FileObjects.{file_below}
 use Rattle.doc_model.specs.Files.{file}
 use Rattle.doc_model.specs.Pulls.{pull}
 use Rattle.doc_model.specs.Puts.{put}
+use Rattle.doc_model.specs.Drawing.{last_number}
 use Rattle.doc_model.specs.Reached.{named_along, chain, absent, reached}
+use Rattle.doc_model.specs.Versions.{restore}
 use Rattle.doc_model.specs.Weights.{weight}
 use Rattle.doc_model.specs.WrittenElements.{element_bytes, body_bytes, manifest_map_bytes, cell_map_bytes, revision_map_bytes, schema_bytes, root_bytes, current_bytes, revision_bytes, revision_root_bytes, group_reference_bytes, declarations_bytes, declaration_bytes, datas_bytes, data_bytes}
 use Rattle.stream_objects.specs.Written as written
@@ -162,3 +164,47 @@ at_999 = refl
 at_1000 : (put locked 1000 [] (upload five (id 1) Null)).moved ≡ true
 unfolding named_along chain file_below weight element_bytes written.started body_bytes manifest_map_bytes cell_map_bytes revision_map_bytes schema_bytes root_bytes current_bytes revision_bytes revision_root_bytes group_reference_bytes declarations_bytes declaration_bytes datas_bytes data_bytes
 at_1000 = refl
+
+-- the first version restored: its index under the next number is the ninth element, and commits
+abbrev thrice : Doc
+thrice = record twice {
+  added = five ++ three
+      ++ record {
+        id = id 21;
+        body = Index (record { target = id 2; serial = serial.Null } ∷ [])
+            (record { cell = cell; target = id 3; serial = serial.Null } ∷ []) (record { revision = id 6; target = id 4; serial = serial.Null } ∷ []);
+      } ∷ [];
+  commits = record { index = id 1; moment = 5; user = [] } ∷ record { index = id 11; moment = 6; user = [] } ∷ record { index = id 21; moment = 7; user = [] } ∷ [];
+  drawn = 21;
+}
+
+restored_once : restore twice 7 [] 1 None ≡ record { doc = thrice; reply = reply.Done; moved = true }
+unfolding named_along chain file_below weight element_bytes written.started body_bytes manifest_map_bytes cell_map_bytes revision_map_bytes schema_bytes root_bytes current_bytes revision_bytes revision_root_bytes group_reference_bytes declarations_bytes declaration_bytes datas_bytes data_bytes
+restored_once = refl
+
+restored_file : file thrice.added (id 21) ≡ file twice.added (id 1)
+unfolding chain file_below named_along
+restored_file = refl
+
+-- who was sent all of the second version is sent what only the first one reaches, and the new index
+knows_second : told (pull thrice (from_to 2 2 ∷ from_to 4 8 ∷ [])) ≡ (id 21, 3 ∷ 9 ∷ [], from_to 2 9 ∷ [])
+unfolding named_along
+knows_second = refl
+
+-- a put on the version itself is refused, since the stored index is the new one
+on_first : (put thrice 8 [] (upload [] (id 31) (id 1))).reply ≡ reply.Refused code.Coherency
+unfolding named_along chain file_below weight element_bytes written.started body_bytes manifest_map_bytes cell_map_bytes revision_map_bytes schema_bytes root_bytes current_bytes revision_bytes revision_root_bytes group_reference_bytes declarations_bytes declaration_bytes datas_bytes data_bytes
+on_first = refl
+
+-- versions are counted from 1, a lock holds, and the numbers run out
+no_version_0 : (restore twice 7 [] 0 None).reply ≡ reply.Refused code.VersionUnknown
+no_version_0 = refl
+
+no_version_3 : (restore twice 7 [] 3 None).reply ≡ reply.Refused code.VersionUnknown
+no_version_3 = refl
+
+locked_restore : (restore (record twice { lock = Exclusive own 1000 }) 999 [] 1 None).reply ≡ reply.Refused code.AlreadyLocked
+locked_restore = refl
+
+no_number_left : (restore (record twice { drawn = last_number }) 7 [] 1 None).reply ≡ reply.Refused code.NoNumbers
+no_number_left = refl
