@@ -1,5 +1,6 @@
 pub mod Sayings
 pub mod Cataloging
+pub mod Wholes
 pub mod Keeping
 pub mod Weighing
 pub mod Sending

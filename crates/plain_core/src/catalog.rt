@@ -76,7 +76,7 @@ impl<'a> Catalog<'a> {
     }
 
     /// Adds the element at the end. Without memory it is dropped.
-    fn push(&mut self, element: Element) -> Result<(), NoMemory>
+    pub fn push(&mut self, element: Element) -> Result<(), NoMemory>
         ensures listed { OnOk result (listed self.new ≡ listed self.old ++ element ∷ []) }
         ensures added { self.new.added.now ≡ self.old.added.now }
     {

@@ -7,8 +7,11 @@
 //! - `file`: the file at an index
 //! - `naming`: what an index names
 //! - `plain`: the document, its plans and what settles them
+//! - `plan_edit`: planning a step of the table of editors
 //! - `plan_lock`: planning a step of the lock
 //! - `plan_put`: planning an upload
+//! - `plan_read`: planning what only reads
+//! - `plan_restore`: planning what restores a version
 //! - `pull`: what a client lacks, and what it knows then
 //! - `put`: what an upload meets, and the first reasons to refuse it
 //! - `reaching`: what is reached from an index, and whether it is too much
@@ -25,8 +28,11 @@ mod content;
 mod file;
 mod naming;
 mod plain;
+mod plan_edit;
 mod plan_lock;
 mod plan_put;
+mod plan_read;
+mod plan_restore;
 mod pull;
 mod put;
 mod reaching;

@@ -1,7 +1,8 @@
 // A document as its lists.
-ghost use Rattle.std.specs.Prelude.{◌≡◌, ◌<◌, ◌^◌, true, IfOk, IsSome, OnOk, Some, IsTrue};
+ghost use Rattle.std.specs.Prelude.{◌≡◌, ◌<◌, ◌^◌, [], ◌∷◌, ◌++◌, true, IfOk, IsSome, OnOk, Some, IsTrue, vec_len};
 ghost use Rattle.std.specs.List.{list_all};
 ghost use Rattle.plain_core.specs.Weighing.{all_few, few_parts};
+ghost use Rattle.plain_core.specs.Wholes.{all_usable, all_whole};
 
 use crate::pull::pull;
 use compact_values::{Copied, Guid, NoMemory, Seq};
@@ -11,7 +12,8 @@ use doc_model::{
 };
 use std::alloc::Global;
 
-/// A document as its lists. Each of its elements is written in few enough stream objects to be weighed.
+/// A document as its lists. Each of its elements is written in few enough stream objects to be weighed, and has an id that
+/// may be used; at each of its versions all that is named is there, and so is the file.
 #[derive(Drop)]
 pub struct PlainCore {
     pub(crate) alloc: Global,
@@ -24,6 +26,8 @@ pub struct PlainCore {
     pub(crate) drawn: u64,
     ghost few: { all_few added.items ≡ true },
     ghost few_pending: { few_parts parts ≡ true },
+    ghost usable: { all_usable guid drawn added.items ≡ true },
+    ghost whole: { all_whole added.items commits.items ≡ true },
 }
 
 /// What a plan changes.
@@ -39,6 +43,10 @@ pub enum Change {
     Lock {
         lock: LockRecord,
     },
+    /// These are then the editors.
+    Edit {
+        editors: Editors,
+    },
     /// These are then the uploads that aren't complete.
     Keep {
         parts: Parts,
@@ -49,6 +57,12 @@ pub enum Change {
         commit: Commit,
         parts: Parts,
     },
+    /// The elements and the version join the others, and so many numbers are then drawn.
+    Restore {
+        fresh: Vec<Element>,
+        commit: Commit,
+        drawn: u64,
+    },
 }
 
 impl PlainCore {
@@ -57,8 +71,7 @@ impl PlainCore {
     ghost use Rattle.doc_model.specs.Pulls.{pull};
     ghost use Rattle.doc_model.specs.Sound.{Sound};
     ghost use Rattle.doc_model.specs.Turns.{reading};
-    ghost use Rattle.plain_core.specs.Keeping.{doc_of, has_room, leads_to, planned_of};
-    ghost use Rattle.plain_core.specs.declared.plain.Change.TheVariants as changes;
+    ghost use Rattle.plain_core.specs.Keeping.{doc_of, has_places, has_room, joined, leads_to, may_join, planned_of};
 
     /// An empty document.
     pub fn new(alloc: Global, guid: Guid) -> Result<PlainCore, NoMemory>
@@ -125,31 +138,37 @@ impl PlainCore {
         Ok(self.read(reply))
     }
 
+    // Makes room for so many elements, and a version.
+    fn reserve(&mut self, count: usize) -> Result<(), NoMemory>
+        ensures same { doc_of self.new ≡ doc_of self.old }
+        ensures room { OnOk result (has_places self.new count ≡ true) }
+    {
+        let Ok(()) = self.added.reserve(count) else {
+            return Err(NoMemory);
+        };
+        let Ok(()) = self.commits.reserve(1) else {
+            return Err(NoMemory);
+        };
+        Ok(())
+    }
+
     /// Makes room for what the change adds.
     pub(crate) fn make_room(&mut self, change: &Change) -> Result<(), NoMemory>
         ensures same { doc_of self.new ≡ doc_of self.old }
         ensures room { OnOk result (has_room self.new change.now ≡ true) }
     {
         match change {
-            Change::Commit { fresh, .. } => {
-                let Ok(()) = self.added.reserve(fresh.len()) else {
-                    return Err(NoMemory);
-                };
-                let Ok(()) = self.commits.reserve(1) else {
-                    return Err(NoMemory);
-                };
-                Ok(())
-            }
+            Change::Commit { fresh, .. } => self.reserve(fresh.len()),
+            Change::Restore { fresh, .. } => self.reserve(fresh.len()),
             _ => Ok(()),
         }
     }
 
     // Adds what was committed, for which there is room.
-    fn add(&mut self, fresh: Vec<Element>, commit: Commit, parts: Parts)
-        requires room { has_room self.old (changes.Commit fresh commit parts) ≡ true }
-        requires few { all_few fresh.items ≡ true }
-        requires few_pending { few_parts parts ≡ true }
-        ensures { Some (doc_of self.new) ≡ leads_to (doc_of self.old) (changes.Commit fresh commit parts) }
+    fn add(&mut self, fresh: Vec<Element>, commit: Commit)
+        requires room { has_places self.old (vec_len fresh) ≡ true }
+        requires joins { may_join (doc_of self.old) fresh.items commit ≡ true }
+        ensures { doc_of self.new ≡ joined (doc_of self.old) fresh.items commit }
     {
         let mut fresh = fresh;
         match self.added.append(&mut fresh) {
@@ -160,7 +179,6 @@ impl PlainCore {
             Ok(()) => {}
             Err(_) => unreachable!(),
         }
-        self.parts = parts;
     }
 
     /// Draws so many numbers.
@@ -205,6 +223,14 @@ impl Core for PlainCore {
             Sub::Put { put } => self.plan_put(call.moment, &call.user, put),
             Sub::Draw { count } => Ok(self.plan_draw(*count)),
             Sub::Lock { step } => self.plan_lock(call.moment, step),
+            Sub::Editor { step } => self.plan_edit(call.moment, &call.user, step),
+            Sub::Versions => self.plan_versions(),
+            Sub::Restore { number, carried } => {
+                self.plan_restore(call.moment, &call.user, *number, *carried)
+            }
+            Sub::ReadFile => self.plan_file(),
+            Sub::AmIAlone => Ok(self.plan_alone(call.moment)),
+            Sub::WhoAmI => self.plan_user(&call.user),
         }
     }
 
@@ -218,12 +244,24 @@ impl Core for PlainCore {
             Change::Nothing => {}
             Change::Draw { drawn } => self.drawn = drawn,
             Change::Lock { lock } => self.lock = lock,
+            Change::Edit { editors } => self.editors = editors,
             Change::Keep { parts } => self.parts = parts,
             Change::Commit {
                 fresh,
                 commit,
                 parts,
-            } => self.add(fresh, commit, parts),
+            } => {
+                self.add(fresh, commit);
+                self.parts = parts;
+            }
+            Change::Restore {
+                fresh,
+                commit,
+                drawn,
+            } => {
+                self.drawn = drawn;
+                self.add(fresh, commit);
+            }
         }
         reply
     }
