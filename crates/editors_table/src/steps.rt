@@ -1,0 +1,108 @@
+ghost use Rattle.std.specs.Prelude.{◌≡◌, IfOk};
+ghost use Rattle.doc_model.specs.Editing.{becomes, on_editor, other_editors, edited, join, set_key, remove_key};
+ghost use Rattle.editors_table.specs.Turning.{IsTurn};
+
+use crate::editors::{
+    count_others, others, own_editor, refreshed, with_editor, with_key, with_key_removed,
+};
+use crate::entries::{finds_no_place, has_key, is_long};
+use crate::plan::EditorPlan;
+use compact_values::{Guid, NoMemory, Octets, Text};
+use doc_model::{Code, Editors};
+use std::alloc::Global;
+
+/// The client joins, or refreshes its place.
+pub fn join(
+    alloc: Global,
+    editors: Editors,
+    client: Guid,
+    user: &Text,
+    until: u64,
+) -> Result<EditorPlan, NoMemory>
+    ensures { IfOk result (λ plan. IsTurn editors (join client user.now until editors) plan) }
+{
+    if count_others(editors.as_slice(), client) < 64 {
+        let after = with_editor(alloc, editors, client, user, until)?;
+        Ok(EditorPlan::change(after))
+    } else {
+        Ok(EditorPlan::refuse(editors, Code::EditorsFull))
+    }
+}
+
+/// The client leaves.
+pub fn leave(alloc: Global, editors: Editors, client: Guid) -> Result<EditorPlan, NoMemory>
+    ensures { IfOk result (λ plan. IsTurn editors (on_editor client editors (λ e. becomes (other_editors client editors))) plan) }
+{
+    match own_editor(editors.as_slice(), client) {
+        None => Ok(EditorPlan::refuse(editors, Code::EditorUnknown)),
+        Some(_) => {
+            let after = others(alloc, editors, client)?;
+            Ok(EditorPlan::change(after))
+        }
+    }
+}
+
+/// The client stays until then.
+pub fn refresh(
+    alloc: Global,
+    editors: Editors,
+    client: Guid,
+    until: u64,
+) -> Result<EditorPlan, NoMemory>
+    ensures { IfOk result (λ plan. IsTurn editors (on_editor client editors (λ e. becomes (edited client (λ x. record x { until = until }) editors))) plan) }
+{
+    match own_editor(editors.as_slice(), client) {
+        None => Ok(EditorPlan::refuse(editors, Code::EditorUnknown)),
+        Some(_) => {
+            let after = refreshed(alloc, editors, client, until)?;
+            Ok(EditorPlan::change(after))
+        }
+    }
+}
+
+/// The client sets a key.
+pub fn set_key(
+    alloc: Global,
+    editors: Editors,
+    client: Guid,
+    key: &Text,
+    value: &Octets,
+) -> Result<EditorPlan, NoMemory>
+    ensures { IfOk result (λ plan. IsTurn editors (on_editor client editors (set_key client key.now value.now editors)) plan) }
+{
+    match own_editor(editors.as_slice(), client) {
+        None => Ok(EditorPlan::refuse(editors, Code::EditorUnknown)),
+        Some(own) => {
+            if is_long(key.len()) || is_long(value.len()) {
+                Ok(EditorPlan::refuse(editors, Code::MetadataLong))
+            } else if finds_no_place(key, own.entries.as_slice()) {
+                Ok(EditorPlan::refuse(editors, Code::MetadataFull))
+            } else {
+                let after = with_key(alloc, editors, client, key, value)?;
+                Ok(EditorPlan::change(after))
+            }
+        }
+    }
+}
+
+/// The client removes a key.
+pub fn remove_key(
+    alloc: Global,
+    editors: Editors,
+    client: Guid,
+    key: &Text,
+) -> Result<EditorPlan, NoMemory>
+    ensures { IfOk result (λ plan. IsTurn editors (on_editor client editors (remove_key client key.now editors)) plan) }
+{
+    match own_editor(editors.as_slice(), client) {
+        None => Ok(EditorPlan::refuse(editors, Code::EditorUnknown)),
+        Some(own) => {
+            if has_key(key, own.entries.as_slice()) {
+                let after = with_key_removed(alloc, editors, client, key)?;
+                Ok(EditorPlan::change(after))
+            } else {
+                Ok(EditorPlan::stay(editors))
+            }
+        }
+    }
+}
