@@ -97,7 +97,7 @@ commit-later d d' more e new c s =
     }
 
 -- the new commit: nothing is absent, the chains end, and there is a file
-all-found : (added : List Element) (index : ExGuid) → is_some (absent added index) ≡ false → AllNamed added index
+pub all-found : (added : List Element) (index : ExGuid) → is_some (absent added index) ≡ false → AllNamed added index
 all-found added index h = at (names added index) h
   where
     at : (ns : List Name) → is_some (option_map (λ n. n.id) (find (λ n. not n.found) ns)) ≡ false → list_all (λ n. n.found) ns ≡ true

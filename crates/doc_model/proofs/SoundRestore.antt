@@ -28,7 +28,8 @@ use Rattle.doc_model.specs.Weights.{objects_in, objects_written, weight_of}
 use Rattle.doc_model.proofs.Added.{names-found, same-added}
 use Rattle.doc_model.proofs.Distinct.{distinct-push}
 use Rattle.doc_model.proofs.EachItem.{all-each, each-as, each-found}
-use Rattle.doc_model.proofs.LikeIndex.{reached-like, file-like}
+use Rattle.doc_model.proofs.LikeIndex as like
+use Rattle.doc_model.proofs.LikeIndex.{reached-like, file-like, mapping}
 use Rattle.doc_model.proofs.Reasons.{NoneHolds, not-less, or-neither}
 use Rattle.doc_model.proofs.SoundCommits.{commit-later, new-not-found, reached-named}
 use Rattle.doc_model.proofs.SoundElements.{IsNew, element-later}
@@ -47,10 +48,6 @@ undrawn doc (Id g v) d = at (same_guid doc.guid g) refl
     at false e = refl
 
 -- an index that maps what one of few objects does, or nothing, is of few objects
-abbrev mapping : Option Mappings → Body
-mapping o =
-    let maps = unwrap_or o (record { manifests = []; cells = []; revisions = [] }) in Index maps.manifests maps.cells maps.revisions
-
 few-mapped : (body : Body) → 1 + objects_in body ≤ most_objects → 1 + objects_in (mapping (as_index body)) ≤ most_objects
 few-mapped (Index manifests cells revisions) h = h
 few-mapped (Storage schema roots) h = omega arith
@@ -59,12 +56,22 @@ few-mapped (Revision id base roots groups) h = omega arith
 few-mapped (Group objects) h = omega arith
 few-mapped (Blob bytes) h = omega arith
 
+pub few-like : (added : List Element) (id index : ExGuid) → Each (λ e. objects_written e ≤ most_objects) added → objects_written (index_like added id index) ≤ most_objects
+few-like added id index h = at (find_element added index) (λ e f. each-found (λ e. objects_written e ≤ most_objects) (λ x. same_id x.id index) added e h f)
+  where
+    at : (o : Option Element) → ((e : Element) → o ≡ Some e → objects_written e ≤ most_objects) → 1 + objects_in (mapping (option_and_then (λ e. as_index e.body) o)) ≤ most_objects
+    at None h = omega arith
+    at (Some e) h = few-mapped e.body (h e refl)
+
 module _ (doc : Doc) (s : Sound doc) where
   abbrev new : ExGuid
   new = new_index doc
 
   each-sound : Each (IsSoundElement doc) doc.added
   each-sound = recursion_from_All (IsSoundElement doc) doc.added s.added
+
+  each-few : Each (λ e. objects_written e ≤ most_objects) doc.added
+  each-few = each-as (IsSoundElement doc) (λ e. objects_written e ≤ most_objects) doc.added (λ e t. t.few_objects) each-sound
 
   -- the new id is that of no element and of no version
   no-element : Each (λ x. same_id new x.id ≡ false) doc.added
@@ -98,29 +105,11 @@ module _ (doc : Doc) (s : Sound doc) where
     is-new = (no-element, tt)
 
     few-objects : objects_written element ≤ most_objects
-    few-objects =
-        at (find_element doc.added c.index) (λ e f. each-found (IsSoundElement doc) (λ x. same_id x.id c.index) doc.added e each-sound f)
-      where
-        at : (o : Option Element) → ((e : Element) → o ≡ Some e → IsSoundElement doc e) → 1 + objects_in (mapping (option_and_then (λ e. as_index e.body) o)) ≤ most_objects
-        at None h = omega arith
-        at (Some e) h = few-mapped e.body (h e refl).few_objects
+    few-objects = few-like doc.added new c.index each-few
 
     -- the new index maps what the version's does
-    found : find_element after new ≡ Some element
-    found =
-        find-append (λ e. same_id e.id new) doc.added (element ∷ [])
-        ∙ ap (λ o. option_or o (find_element (element ∷ []) new)) none-new
-        ∙ ap (λ b. cond b (Some element) None) (same-id new)
-
     pub maps-like : said as_index after new ≡ said as_index after c.index
-    maps-like =
-        ap (option_and_then (λ e. as_index e.body)) found
-        ∙ as-some (said as_index doc.added c.index) (all-each (λ n. n.found) (names doc.added c.index) (reached-named doc.added c.index t.elements t.reached)).0
-        ∙ sym (ap (option_and_then (λ e. as_index e.body)) (same-added doc.added (element ∷ []) c.index (reached-named doc.added c.index t.elements t.reached)).0)
-      where
-        as-some : (o : Option Mappings) → is_some o ≡ true → as_index (mapping o) ≡ o
-        as-some None h = cc
-        as-some (Some maps) h = refl
+    maps-like = like.maps-like doc.added new c.index none-new (reached-named doc.added c.index t.elements t.reached)
 
     module _ (moment : ℕ) (user : List ℕ) (none : NoneHolds (restore_reasons doc after)) where
       abbrev later : Doc

@@ -17,7 +17,7 @@ use Rattle.plain_core.specs.Weighing.{is_few, all_few, few_parts}
 
 -- ---- lists that pass a test
 
-both : (a b : Bool) → a ≡ true → b ≡ true → (a && b) ≡ true
+pub both : (a b : Bool) → a ≡ true → b ≡ true → (a && b) ≡ true
 both true b p q = q
 both false b p q = p
 

@@ -6,4 +6,6 @@ pub mod ChainSteps
 pub mod FiledAnswers
 pub mod BlobsFound
 pub mod FewObjects
+pub mod Wholes
+pub mod Joining
 pub mod EmptySound

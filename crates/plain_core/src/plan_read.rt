@@ -1,17 +1,18 @@
 // Planning what only reads: the versions, the file, whether a client is alone, and who the caller is.
-ghost use Rattle.std.specs.Prelude.{◌≡◌, true, IfOk};
+ghost use Rattle.std.specs.Prelude.{◌≡◌, true, Some, IfOk};
 ghost use Rattle.doc_model.specs.Apply.{IsPlanned};
 ghost use Rattle.doc_model.specs.Editing.{is_alone};
+ghost use Rattle.doc_model.specs.Files.{file};
 ghost use Rattle.doc_model.specs.Turns.{reading};
 ghost use Rattle.doc_model.specs.Versions.{last_file};
 ghost use Rattle.doc_model.specs.declared.reply.Reply.TheVariants.{VersionList, File, Lone, Me};
 ghost use Rattle.plain_core.specs.Keeping.{doc_of, planned_of};
-ghost use Rattle.plain_core.specs.Wholes.{all_whole};
+ghost use Rattle.plain_core.specs.Wholes.{all_whole, is_whole};
 
 use crate::catalog::Catalog;
 use crate::file::{Filed, file_at};
 use crate::plain::{Change, PlainCore};
-use compact_values::{Copied, NoMemory, Octets, Seq, Text};
+use compact_values::{Copied, ExGuid, NoMemory, Octets, Seq, Text};
 use doc_model::{Commit, Element, Plan, Reply};
 use editors_table::is_alone;
 use std::alloc::Global;
@@ -50,17 +51,31 @@ impl PlainCore {
     }
 }
 
+// The file at an index of which all is there.
+fn file_of_version(
+    alloc: Global,
+    added: &[Element],
+    index: ExGuid,
+) -> Result<Octets, NoMemory>
+    requires { is_whole added.now index ≡ true }
+    ensures { IfOk result (λ bytes. file added.now index ≡ Some bytes) }
+{
+    let catalog = Catalog::new(alloc, added)?;
+    let filed = file_at(alloc, &catalog, index)?;
+    match filed {
+        Filed::File { bytes } => Ok(bytes),
+        Filed::Undefined => unreachable!(),
+        Filed::TooLarge => unreachable!(),
+    }
+}
+
 // The file at the last version, empty without one.
 fn last_file(alloc: Global, added: &[Element], commits: &[Commit]) -> Result<Octets, NoMemory>
     requires { all_whole added.now commits.now ≡ true }
     ensures { IfOk result (λ bytes. bytes ≡ last_file added.now commits.now) }
 {
-    let Some(last) = commits.last() else {
-        return Ok(Seq::new(alloc));
-    };
-    let catalog = Catalog::new(alloc, added)?;
-    match file_at(alloc, &catalog, last.index)? {
-        Filed::File { bytes } => Ok(bytes),
-        Filed::Undefined | Filed::TooLarge => unreachable!(),
+    match commits.last() {
+        None => Ok(Seq::new(alloc)),
+        Some(last) => file_of_version(alloc, added, last.index),
     }
 }
