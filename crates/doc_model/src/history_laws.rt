@@ -1,0 +1,8 @@
+//! Laws of histories: each function's contract is one, and it does nothing.
+ghost use Rattle.doc_model.specs.HistoryLaws.{MovesByKind};
+
+/// A call that moves is of a kind that may be a change. So one that only reads never is one.
+pub fn changes_are_of_their_kinds()
+    ensures { MovesByKind }
+{}
+
