@@ -31,3 +31,4 @@ pub mod Restoring
 pub mod Reasons
 pub mod SameContents
 pub mod OtherLocks
+pub mod Replays
