@@ -32,3 +32,8 @@ pub mod Reasons
 pub mod SameContents
 pub mod OtherLocks
 pub mod Replays
+pub mod Merging
+pub mod Places
+pub mod OwnOrder
+pub mod Threads
+pub mod OneThread

@@ -1,5 +1,5 @@
 //! Laws of histories: each function's contract is one, and it does nothing.
-ghost use Rattle.doc_model.specs.HistoryLaws.{MovesByKind, UnmovedBetween};
+ghost use Rattle.doc_model.specs.HistoryLaws.{MovesByKind, OneThread, UnmovedBetween};
 
 /// A call that moves is of a kind that may be a change. So one that only reads never is one.
 pub fn changes_are_of_their_kinds()
@@ -9,4 +9,10 @@ pub fn changes_are_of_their_kinds()
 /// A call that doesn't move may stand anywhere in a list of calls, and changes nothing of the document that the list leads to.
 pub fn unmoved_calls_stand_between()
     ensures { UnmovedBetween }
+{}
+
+/// Where each caller's calls stand in the history of a document, all callers' calls together are one thread's run: each is
+/// answered as the document then says, the changes are the history, and each caller's calls come in its order.
+pub fn the_callers_are_one_thread()
+    ensures { OneThread }
 {}
