@@ -37,3 +37,4 @@ pub mod Places
 pub mod OwnOrder
 pub mod Threads
 pub mod OneThread
+pub mod FitsStands
