@@ -31,3 +31,10 @@ pub mod Restoring
 pub mod Reasons
 pub mod SameContents
 pub mod OtherLocks
+pub mod Replays
+pub mod Merging
+pub mod Places
+pub mod OwnOrder
+pub mod Threads
+pub mod OneThread
+pub mod FitsStands

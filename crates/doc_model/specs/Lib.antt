@@ -32,8 +32,10 @@ pub mod Sound
 pub mod Puts
 pub mod Versions
 pub mod Apply
+pub mod Histories
 pub mod NumberedElements
 pub mod SeenResponses
 pub mod ResponseParts
 pub mod Laws
 pub mod LockLaws
+pub mod HistoryLaws

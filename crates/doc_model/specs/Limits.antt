@@ -51,3 +51,7 @@ most_key_bytes = 1024
 -- elements of one package
 abbrev pub most_elements : ℕ
 most_elements = 8192
+
+-- bodies of a journal
+abbrev pub most_bodies : ℕ
+most_bodies = 1_000_000

@@ -10,11 +10,12 @@
 //! - `call`: what a call asks of a document
 //! - `core_trait`: a document, however it is kept
 //! - `copied`, `same`: copies of plain data, and exact comparison
-//! - `laws`, `lock_laws`: what holds of the definitions themselves
+//! - `laws`, `lock_laws`, `history_laws`: what holds of the definitions themselves
 //! - `request`: what a request asks for
 //! - `sizes`: how many bytes the values of a written element take
 //! - `weighing`: how many bytes a written element takes
 //! - `reply`: what became of a call
+//! - `made`: the same with the disk's counts of faults round it
 //! - `response`: what a client reads of a response
 #![tactic(auto)]
 
@@ -24,10 +25,12 @@ mod core_trait;
 mod doc;
 mod editor;
 mod element;
+pub mod history_laws;
 mod knowledge;
 pub mod laws;
 mod lock;
 pub mod lock_laws;
+mod made;
 mod reply;
 mod request;
 mod response;
@@ -46,6 +49,7 @@ pub use element::{
 };
 pub use knowledge::{Knowledge, Range, Ranges};
 pub use lock::{Coauthors, LockKind, LockRecord, LockStep, Member, Members};
+pub use made::Made;
 pub use reply::{Answer, Answers, Code, Reply, Submitted};
 pub use request::{CellRequest, WireKind, WireSub, WireSubs};
 pub use response::{CellResponse, ReplyForm, Seen, Seens};
