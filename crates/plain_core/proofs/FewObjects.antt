@@ -12,7 +12,10 @@ use Rattle.doc_model.specs.declared.element.Element.{Element}
 use Rattle.doc_model.specs.Limits.{most_objects}
 use Rattle.doc_model.specs.Puts.{find_part, pending, is_kept, other_parts}
 use Rattle.doc_model.specs.Sound.{IsSoundElement, IsSoundPart}
+use Rattle.doc_model.specs.Versions.{index_like}
 use Rattle.doc_model.specs.Weights.{objects_written}
+use Rattle.doc_model.proofs.EachItem.{all-each, each-as}
+use Rattle.doc_model.proofs.SoundRestore.{few-like}
 use Rattle.plain_core.specs.Weighing.{is_few, all_few, few_parts}
 
 -- ---- lists that pass a test
@@ -63,6 +66,15 @@ each_part doc (p ∷ parts) h = both (all_few p.elements) (few_parts parts) (few
 
 pub few-sound-parts : (doc : Doc) (parts : List Part) → All (IsSoundPart doc) parts → few_parts parts ≡ true
 few-sound-parts doc parts h = each_part doc parts (recursion_from_All (IsSoundPart doc) parts h)
+
+-- an index that maps what another does is written in few objects
+at_most : (n : ℕ) → nat_le n most_objects ≡ true → n ≤ most_objects
+at_most n h = grind (arith, nat_tests)
+
+pub few-with-like : (added : List Element) (id index : ExGuid) → all_few added ≡ true → all_few (added ++ index_like added id index ∷ []) ≡ true
+few-with-like added id index h =
+    let light = few-like added id index (each-as (λ e. is_few e ≡ true) (λ e. objects_written e ≤ most_objects) added (λ e t. at_most (objects_written e) t) (all-each is_few added h)) in
+    all-both is_few added (index_like added id index ∷ []) h (both (is_few (index_like added id index)) true (few (objects_written (index_like added id index)) light) refl)
 
 -- ---- what is pending
 

@@ -8,4 +8,5 @@ pub mod BlobsFound
 pub mod FewObjects
 pub mod Wholes
 pub mod Joining
+pub mod Planning
 pub mod EmptySound

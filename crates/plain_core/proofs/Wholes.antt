@@ -22,10 +22,11 @@ use Rattle.doc_model.specs.Reached.{absent, names}
 use Rattle.doc_model.specs.Sound.{IsDrawn, IsSoundCommit, IsSoundElement, Sound}
 use Rattle.doc_model.specs.Versions.{index_like, next_id}
 use Rattle.doc_model.proofs.Added.{file-stays, names-stay}
-use Rattle.doc_model.proofs.EachItem.{each-both, none-each}
+use Rattle.doc_model.proofs.EachItem.{each-as, each-both}
 use Rattle.doc_model.proofs.LikeIndex.{file-like, maps-like, named-like}
 use Rattle.doc_model.proofs.Reasons.{and-both}
 use Rattle.doc_model.proofs.SoundCommits.{all-found, new-not-found, reached-named}
+use Rattle.doc_model.proofs.SoundElements.{IsOwned}
 use Rattle.plain_core.specs.Wholes.{is_usable, all_usable, is_small, is_whole, all_whole}
 use Rattle.plain_core.proofs.FewObjects.{both, all-both}
 
@@ -118,13 +119,15 @@ usable-sound doc (Id g v) n d = at (same_guid g doc.guid) refl
     at true e = within (d (guid-same g doc.guid e))
     at false e = refl
 
+pub usable-owned : (doc : Doc) (es : List Element) → Each (λ e. IsOwned doc e.id) es → all_usable doc.guid doc.drawn es ≡ true
+usable-owned doc [] h = refl
+usable-owned doc (e ∷ es) h = both (is_usable doc.guid doc.drawn e) (all_usable doc.guid doc.drawn es) (usable-sound doc e.id h.0.1 h.0.0) (usable-owned doc es h.1)
+
 pub sound-usable : (doc : Doc) → Sound doc → all_usable doc.guid doc.drawn doc.added ≡ true
 sound-usable doc s =
-    each doc.added (each-both (λ e. e.id ≢ Null) (IsSoundElement doc) doc.added (recursion_from_All (λ e. e.id ≢ Null) doc.added s.no_null) (recursion_from_All (IsSoundElement doc) doc.added s.added))
-  where
-    each : (es : List Element) → Each (λ e. (e.id ≢ Null) × IsSoundElement doc e) es → all_usable doc.guid doc.drawn es ≡ true
-    each [] h = refl
-    each (e ∷ es) h = both (is_usable doc.guid doc.drawn e) (all_usable doc.guid doc.drawn es) (usable-sound doc e.id h.0.0 h.0.1.drawn) (each es h.1)
+    usable-owned doc doc.added
+    (each-as (λ e. (e.id ≢ Null) × IsSoundElement doc e) (λ e. IsOwned doc e.id) doc.added (λ e h. (h.1.drawn, h.0))
+    (each-both (λ e. e.id ≢ Null) (IsSoundElement doc) doc.added (recursion_from_All (λ e. e.id ≢ Null) doc.added s.no_null) (recursion_from_All (IsSoundElement doc) doc.added s.added)))
 
 short : (o : Option (List ℕ)) (bytes : List ℕ) → o ≡ Some bytes → length bytes ≤ most_file → is_small o ≡ true
 short None bytes e le = cc
@@ -152,6 +155,13 @@ next-unused guid drawn (Id g v) h = at (same_guid guid g) refl
     at true e =
         later (subst (λ (b : Bool). not (b && nat_lt drawn v) ≡ true) (ap (λ (x : Guid). same_guid g x) (guid-same guid g e) ∙ same-guid g) h)
     at false e = refl
+
+-- which may be used once it is drawn
+pub next-usable : (guid : Guid) (drawn : ℕ) → not (is_foreign guid (drawn + 1) (next_id guid drawn)) ≡ true
+next-usable guid drawn = ap (λ b. not (b && nat_lt (drawn + 1) (drawn + 1))) (same-guid guid) ∙ least (drawn + 1)
+  where
+    least : (n : ℕ) → not (nat_lt n n) ≡ true
+    least n = grind (arith, nat_tests)
 
 next-new : (guid : Guid) (drawn : ℕ) (es : List Element) → all_usable guid drawn es ≡ true → Each (λ x. same_id (next_id guid drawn) x.id ≡ false) es
 next-new guid drawn [] h = tt

@@ -1,5 +1,5 @@
 // A document as its lists.
-ghost use Rattle.std.specs.Prelude.{◌≡◌, ◌<◌, ◌^◌, [], ◌∷◌, ◌++◌, true, IfOk, IsSome, OnOk, Some, IsTrue, vec_len};
+ghost use Rattle.std.specs.Prelude.{◌≡◌, ◌<◌, ◌^◌, nat_le, true, IfOk, IsSome, OnOk, Some, IsTrue, vec_len};
 ghost use Rattle.std.specs.List.{list_all};
 ghost use Rattle.plain_core.specs.Weighing.{all_few, few_parts};
 ghost use Rattle.plain_core.specs.Wholes.{all_usable, all_whole};
@@ -164,6 +164,16 @@ impl PlainCore {
         }
     }
 
+    // Numbers up to this one are then drawn.
+    fn draw_to(&mut self, drawn: u64)
+        requires { nat_le self.old.drawn drawn ≡ true }
+        ensures doc { doc_of self.new ≡ record (doc_of self.old) { drawn = drawn } }
+        ensures added { self.new.added ≡ self.old.added }
+        ensures commits { self.new.commits ≡ self.old.commits }
+    {
+        self.drawn = drawn;
+    }
+
     // Adds what was committed, for which there is room.
     fn add(&mut self, fresh: Vec<Element>, commit: Commit)
         requires room { has_places self.old (vec_len fresh) ≡ true }
@@ -242,7 +252,7 @@ impl Core for PlainCore {
         let Plan { reply, fresh, .. } = plan;
         match fresh {
             Change::Nothing => {}
-            Change::Draw { drawn } => self.drawn = drawn,
+            Change::Draw { drawn } => self.draw_to(drawn),
             Change::Lock { lock } => self.lock = lock,
             Change::Edit { editors } => self.editors = editors,
             Change::Keep { parts } => self.parts = parts,
@@ -259,7 +269,7 @@ impl Core for PlainCore {
                 commit,
                 drawn,
             } => {
-                self.drawn = drawn;
+                self.draw_to(drawn);
                 self.add(fresh, commit);
             }
         }

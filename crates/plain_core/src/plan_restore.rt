@@ -187,12 +187,8 @@ impl PlainCore {
 
     // The elements of the document, and behind them an index under this id that maps what this version's does.
     fn with_index(&self, id: ExGuid, index: ExGuid) -> Result<Catalog<'_>, NoMemory>
-        requires whole { is_whole self.now.added.items index ≡ true }
-        requires id { id ≡ next_id self.now.guid self.now.drawn }
         ensures listed { IfOk result (λ c. listed c ≡ self.now.added.items ++ index_like self.now.added.items id index ∷ []) }
         ensures added { IfOk result (λ c. c.added.now ≡ self.now.added.items) }
-        ensures few { IfOk result (λ c. all_few (listed c) ≡ true) }
-        ensures whole { IfOk result (λ c. is_whole (listed c) id ≡ true) }
     {
         let alloc = self.alloc;
         let mut catalog = Catalog::new(alloc, self.added.as_slice())?;
