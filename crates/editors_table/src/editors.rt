@@ -1,5 +1,5 @@
 ghost use Rattle.std.specs.Prelude.{◌≡◌, length, find, option_map, IfOk};
-ghost use Rattle.doc_model.specs.Editing.{is_editor, other_editors, edited, renewed, with_editor, with_entry, without_key};
+ghost use Rattle.doc_model.specs.Editing.{is_editor, other_editors, edited, with_editor, with_entry, without_key};
 
 use crate::entries::{with_entry, without_key};
 use compact_values::{Copied, Guid, NoMemory, Octets, Seq, Text};
