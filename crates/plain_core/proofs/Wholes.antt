@@ -1,9 +1,9 @@
 -- The elements and versions that a plain core keeps: of each version all is there, and so it stays when elements are added.
-use Rattle.std.proofs.Common.{◌≡◌, ◌≢◌, ℕ, ◌+◌, ◌≤◌, refl, sym, ◌∙◌, ap, subst, Bool, true, false, not, ◌&&◌, ◌||◌, ◌==◌, nat_le, nat_lt, cond, List, [], ◌∷◌, ◌++◌, length, Option, Some, None, unwrap_or, arith}
+use Rattle.std.proofs.Common.{◌≡◌, ◌≢◌, ℕ, zero, suc, ◌+◌, ◌-◌, ◌≤◌, refl, sym, ◌∙◌, ap, subst, Bool, true, false, not, ◌&&◌, ◌||◌, ◌==◌, nat_le, nat_lt, cond, List, [], ◌∷◌, ◌++◌, length, Option, Some, None, unwrap_or, arith}
 use Rattle.std.specs.Prelude.{is_some, is_none, find, option_map}
 use Rattle.std.proofs.lemmas.Bool.Decides.{nat_tests}
 use Rattle.std.proofs.lemmas.List.Elements.{recursion_from_All}
-use Rattle.std.specs.List.{AllByRecursion as Each, list_all}
+use Rattle.std.specs.List.{AllByRecursion as Each, list_all, slice_get}
 use Rattle.compact_values.specs.declared.guid.Guid.{Guid}
 use Rattle.compact_values.specs.declared.ids.ExGuid.{ExGuid}
 use Rattle.compact_values.specs.declared.ids.ExGuid.TheVariants.{Null, Id}
@@ -20,7 +20,7 @@ use Rattle.doc_model.specs.Limits.{most_file}
 use Rattle.doc_model.specs.Puts.{is_foreign}
 use Rattle.doc_model.specs.Reached.{absent, names}
 use Rattle.doc_model.specs.Sound.{IsDrawn, IsSoundCommit, IsSoundElement, Sound}
-use Rattle.doc_model.specs.Versions.{index_like, next_id}
+use Rattle.doc_model.specs.Versions.{index_like, next_id, version}
 use Rattle.doc_model.proofs.Added.{file-stays, names-stay}
 use Rattle.doc_model.proofs.EachItem.{each-as, each-both}
 use Rattle.doc_model.proofs.LikeIndex.{file-like, maps-like, named-like}
@@ -180,3 +180,22 @@ like-whole guid drawn added index usable whole =
     let still : is_whole after index ≡ true = whole-stays added (like ∷ []) index whole in
     whole-by after id (named-like after id index maps (all-named after index still))
     (ap (λ (f : Option (List ℕ)). is_small f) (file-like after id index maps) ∙ small-file after index still)
+
+-- ---- a version of this number is one of the versions
+
+at-place : (added : List Element) (commits : List Commit) (i : ℕ) (c : Commit) → all_whole added commits ≡ true → slice_get commits i ≡ Some c → is_whole added c.index ≡ true
+at-place added [] i c h e = cc
+at-place added (x ∷ xs) zero c h e =
+    let same : x ≡ c = some-injective e in
+    ap (λ (y : Commit). is_whole added y.index) (sym same) ∙ (and-both (is_whole added x.index) (all_whole added xs) h).0
+  where
+    some-injective : {a b : Commit} → Some a ≡ Some b → a ≡ b
+    some-injective e = cc
+at-place added (x ∷ xs) (suc i) c h e = at-place added xs i c (and-both (is_whole added x.index) (all_whole added xs) h).1 e
+
+pub version-whole : (added : List Element) (commits : List Commit) (number : ℕ) (c : Commit) → all_whole added commits ≡ true → version commits number ≡ Some c → is_whole added c.index ≡ true
+version-whole added commits number c h e = at (number == 0) e
+  where
+    at : (b : Bool) → cond b None (slice_get commits (number - 1)) ≡ Some c → is_whole added c.index ≡ true
+    at true e = cc
+    at false e = at-place added commits (number - 1) c h e
