@@ -1,6 +1,6 @@
 -- A history grows at its end. All that a caller tried stays so, with one more attempt at the end too, and each change moves.
 use Rattle.std.proofs.Common.{◌≡◌, ℕ, ◌≤◌, refl, sym, ◌∙◌, ap, subst, arith, Bool, true, false, List, [], ◌∷◌, ◌++◌, length, get_or, length-append}
-use Rattle.std.specs.List.{All, AllByRecursion as Each, filter_map}
+use Rattle.std.specs.List.{All, AllByRecursion as Each}
 use Rattle.std.proofs.lemmas.List.{append-nil}
 use Rattle.std.proofs.lemmas.List.Elements.{All-push, All-nil, filter_map-append, recursion_from_All}
 use Rattle.doc_model.specs.declared.call.Call.{Call}
@@ -8,7 +8,7 @@ use Rattle.doc_model.specs.declared.doc.Doc.{Doc}
 use Rattle.doc_model.specs.declared.reply.Submitted.{Submitted}
 use Rattle.doc_model.specs.declared.reply.Submitted.TheVariants.{Answered, DiskFault, JournalFull, NoMemory}
 use Rattle.doc_model.specs.Apply.{apply, replay}
-use Rattle.doc_model.specs.Histories.{History, EachMoves, Stands, calls_by, turn_at, Attempt, NeverFall, placed, answered, HasCause, Tried}
+use Rattle.doc_model.specs.Histories.{History, EachMoves, Stands, turn_at, Attempt, NeverFall, placed, answered, HasCause, Tried}
 use Rattle.doc_model.specs.HistoryLaws.{gained, Became, TriedNothing, TriedLater, TriedWithNext, EachMovesAtFirst, EachMovesWith, EachMovesWithGained}
 use Rattle.doc_model.specs.Turns.{Turn}
 use Rattle.doc_model.proofs.Growing.{stands-nowhere, stands-later, stands-with-next, turn-longer, turn-end}
@@ -64,9 +64,9 @@ module _ (doc : Doc) (bodies : ℕ) (history : History) (n : ℕ) where
     tried submitted = record { at = at; call = call; made = record { submitted = submitted; before = before; after = after } }
 
     stands-next : (made : List Attempt) (submitted : Submitted) → Stands doc history n (answered made) → Became turn bodies (tried submitted) submitted
-        → Stands doc (history ++ gained n call turn.moved submitted) n (answered (made ++ tried submitted ∷ []))
+        → Stands doc (history ++ gained n call submitted turn.moved) n (answered (made ++ tried submitted ∷ []))
     stands-next made (Answered reply) s b =
-        subst (Stands doc (history ++ gained n call turn.moved (Answered reply)) n)
+        subst (Stands doc (history ++ gained n call (Answered reply) turn.moved) n)
         (sym (filter_map-append (λ y. placed y.at y.call y.made.submitted) made (tried (Answered reply) ∷ [])))
         (stands-with-next doc history n (answered made) (record { at = at; call = call; reply = reply }) s here b)
     stands-next made NoMemory s b = unanswered made (tried NoMemory) s refl
@@ -81,7 +81,7 @@ module _ (doc : Doc) (bodies : ℕ) (history : History) (n : ℕ) where
 
   module _ (x : Attempt) (here : x.at ≡ length history) (b : Became (apply (replay doc history) x.call) bodies x x.made.submitted) where
     abbrev more : History
-    more = gained n x.call (apply (replay doc history) x.call).moved x.made.submitted
+    more = gained n x.call x.made.submitted (apply (replay doc history) x.call).moved
 
     cause-there : Caused doc bodies (history ++ more) x
     cause-there =
@@ -110,7 +110,7 @@ module _ (doc : Doc) (history : History) (n : ℕ) (call : Call) (h : EachMoves 
   same-history : EachMoves doc (history ++ [])
   same-history = subst (EachMoves doc) (sym (append-nil history)) h
 
-  with-answered : (b : Bool) → (apply (replay doc history) call).moved ≡ b → (s : Submitted) → EachMoves doc (history ++ gained n call b s)
+  with-answered : (b : Bool) → (apply (replay doc history) call).moved ≡ b → (s : Submitted) → EachMoves doc (history ++ gained n call s b)
   with-answered true m (Answered reply) = each-moves-with doc history n call h m
   with-answered false m (Answered reply) = same-history
   with-answered b m NoMemory = same-history

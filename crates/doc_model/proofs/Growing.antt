@@ -1,8 +1,7 @@
 -- A history grows at its end. The calls of a caller that stand in it stand in the longer one, with one more call at the end
 -- too.
-use Rattle.std.proofs.Common.{◌≡◌, ℕ, suc, zero, ◌≤◌, ◌<◌, ◌+◌, ◌==◌, refl, sym, ◌∙◌, ap, subst, arith, Bool, true, false, cond, eq-eqb, List, [], ◌∷◌, ◌++◌, length, map, filter, take, get_or, Some, length-append, append_assoc}
+use Rattle.std.proofs.Common.{◌≡◌, ℕ, suc, zero, ◌≤◌, ◌+◌, ◌==◌, refl, sym, ◌∙◌, ap, subst, arith, Bool, true, false, cond, eq-eqb, List, [], ◌∷◌, ◌++◌, length, map, filter, get_or, Some, length-append}
 use Rattle.std.specs.List.{All, AllByRecursion as Each, slice_get}
-use Rattle.std.proofs.lemmas.Bool.{cond-true}
 use Rattle.std.proofs.lemmas.List.{take-append-le, take_all, map-append, append-nil}
 use Rattle.std.proofs.lemmas.List.Elements.{All-push, All-nil, filter-append, recursion_from_All}
 use Rattle.std.proofs.lemmas.Option.{slice_get_within}
@@ -10,7 +9,7 @@ use Rattle.doc_model.specs.declared.call.Call.{Call}
 use Rattle.doc_model.specs.declared.doc.Doc.{Doc}
 use Rattle.doc_model.specs.declared.reply.Submitted.TheVariants.{Answered}
 use Rattle.doc_model.specs.Apply.{apply, replay}
-use Rattle.doc_model.specs.Histories.{History, EachMoves, Placed, GoOn, Stands, calls_by, moved_calls, moves, turn_at}
+use Rattle.doc_model.specs.Histories.{History, Placed, GoOn, Stands, calls_by, moved_calls, moves, turn_at}
 use Rattle.doc_model.specs.HistoryLaws.{gained, StandsNowhere, StandsLater, StandsWithNext}
 use Rattle.doc_model.specs.Turns.{Turn}
 
@@ -127,18 +126,18 @@ module _ (doc : Doc) (history : History) (n : ℕ) (x : Placed) (here : x.at ≡
   turn = apply (replay doc history) x.call
 
   abbrev more : History
-  more = gained n x.call turn.moved (Answered x.reply)
+  more = gained n x.call (Answered x.reply) turn.moved
 
   turn-there : turn_at doc (history ++ more) x.at x.call ≡ turn
   turn-there = turn-end doc history more x.at x.call here
 
   -- where it moves, it stands at the end
-  held-there : (b : Bool) → b ≡ true → slice_get (history ++ gained n x.call b (Answered x.reply)) x.at ≡ Some (n, x.call)
+  held-there : (b : Bool) → b ≡ true → slice_get (history ++ gained n x.call (Answered x.reply) b) x.at ≡ Some (n, x.call)
   held-there true e = ap (λ (k : ℕ). slice_get (history ++ (n, x.call) ∷ []) k) here ∙ slice_get-end history (n, x.call)
   held-there false e = cc
 
   -- and then it is the one change that the history gained
-  gained-one : (moved : Placed → Bool) (b : Bool) → moved x ≡ b → moved_calls moved (x ∷ []) ≡ calls_by n (gained n x.call b (Answered x.reply))
+  gained-one : (moved : Placed → Bool) (b : Bool) → moved x ≡ b → moved_calls moved (x ∷ []) ≡ calls_by n (gained n x.call (Answered x.reply) b)
   gained-one moved true e =
       ap (λ (c : Bool). map (λ (y : Placed). y.call) (cond c (x ∷ []) [])) e
       ∙ sym (ap (λ (c : Bool). map (λ (y : ℕ × Call). y.1) (cond c ((n, x.call) ∷ []) [])) (eq-eqb n n refl))

@@ -40,3 +40,4 @@ pub mod OneThread
 pub mod FitsStands
 pub mod Growing
 pub mod Attempts
+pub mod HistoryRows

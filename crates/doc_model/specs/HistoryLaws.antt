@@ -73,9 +73,9 @@ FitsWhatStands =
     → Stands doc history n mine → All (λ x. Fits x.call (Answered x.reply)) mine
 
 -- what a history gains by a call under this number: the call, where it moves and was answered
-abbrev pub gained : ℕ → Call → Bool → Submitted → History
-gained n call moved (Answered reply) = if moved then (n, call) ∷ [] else []
-gained n call moved _ = []
+abbrev pub gained : ℕ → Call → Submitted → Bool → History
+gained n call (Answered reply) moved = if moved then (n, call) ∷ [] else []
+gained n call _ moved = []
 
 -- what became of an attempt at this turn: the turn's reply, or there was a cause for none
 abbrev pub Became : Turn → ℕ → Attempt → Submitted → Type 0
@@ -97,7 +97,7 @@ abbrev pub StandsWithNext : Type 0
 StandsWithNext =
     (doc : Doc) (history : History) (n : ℕ) (mine : List Placed) (x : Placed) → Stands doc history n mine → x.at ≡ length history
     → x.reply ≡ (apply (replay doc history) x.call).reply
-    → Stands doc (history ++ gained n x.call (apply (replay doc history) x.call).moved (Answered x.reply)) n (mine ++ x ∷ [])
+    → Stands doc (history ++ gained n x.call (Answered x.reply) (apply (replay doc history) x.call).moved) n (mine ++ x ∷ [])
 
 -- The same of all that a caller tried.
 abbrev pub TriedNothing : Type 0
@@ -113,7 +113,7 @@ abbrev pub TriedWithNext : Type 0
 TriedWithNext =
     (doc : Doc) (bodies : ℕ) (history : History) (n : ℕ) (made : List Attempt) (x : Attempt) → Tried doc bodies history n made → x.at ≡ length history
     → Became (apply (replay doc history) x.call) bodies x x.made.submitted
-    → Tried doc bodies (history ++ gained n x.call (apply (replay doc history) x.call).moved x.made.submitted) n (made ++ x ∷ [])
+    → Tried doc bodies (history ++ gained n x.call x.made.submitted (apply (replay doc history) x.call).moved) n (made ++ x ∷ [])
 
 -- Each call of the empty history moves; and of a history with one more at its end, where that one moves there.
 abbrev pub EachMovesAtFirst : Type 0
@@ -128,4 +128,4 @@ EachMovesWith =
 abbrev pub EachMovesWithGained : Type 0
 EachMovesWithGained =
     (doc : Doc) (history : History) (n : ℕ) (call : Call) (submitted : Submitted) → EachMoves doc history
-    → EachMoves doc (history ++ gained n call (apply (replay doc history) call).moved submitted)
+    → EachMoves doc (history ++ gained n call submitted (apply (replay doc history) call).moved)
