@@ -38,3 +38,6 @@ pub mod OwnOrder
 pub mod Threads
 pub mod OneThread
 pub mod FitsStands
+pub mod Growing
+pub mod Attempts
+pub mod HistoryRows

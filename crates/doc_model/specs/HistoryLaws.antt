@@ -1,13 +1,15 @@
 -- What holds of every history.
-use Rattle.std.specs.Prelude.{◌≡◌, ℕ, ◌==◌, nat_eq, true, false, if◌then◌else◌, List, [], ◌∷◌, ◌++◌, map, filter, All, Any}
+use Rattle.std.specs.Prelude.{◌≡◌, ℕ, ◌==◌, nat_eq, Bool, true, false, if◌then◌else◌, List, [], ◌∷◌, ◌++◌, length, map, filter, All, Any}
 use Rattle.std.specs.List.{IsDistinct}
 use Rattle.doc_model.specs.declared.call.Call.{Call}
 use Rattle.doc_model.specs.declared.doc.Doc.{Doc}
 use Rattle.doc_model.specs.declared.reply.Reply.{Reply}
+use Rattle.doc_model.specs.declared.reply.Submitted.{Submitted}
 use Rattle.doc_model.specs.declared.reply.Submitted.TheVariants.{Answered}
 use Rattle.doc_model.specs.Apply.{apply, replay}
-use Rattle.doc_model.specs.Histories.{History, can_move, EachMoves, Fits, Placed, Stands}
+use Rattle.doc_model.specs.Histories.{History, can_move, EachMoves, Fits, Placed, Stands, calls_by, Attempt, HasCause, Tried}
 use Rattle.doc_model.specs.Sound.{Sound, Valid}
+use Rattle.doc_model.specs.Turns.{Turn}
 
 -- A call that moves is of a kind that may.
 abbrev pub MovesByKind : Type 0
@@ -69,3 +71,61 @@ abbrev pub FitsWhatStands : Type 0
 FitsWhatStands =
     (doc : Doc) (history : History) (n : ℕ) (mine : List Placed) → Sound doc → All (λ item. Valid item.1) history
     → Stands doc history n mine → All (λ x. Fits x.call (Answered x.reply)) mine
+
+-- what a history gains by a call under this number: the call, where it moves and was answered
+abbrev pub gained : ℕ → Call → Submitted → Bool → History
+gained n call (Answered reply) moved = if moved then (n, call) ∷ [] else []
+gained n call _ moved = []
+
+-- what became of an attempt at this turn: the turn's reply, or there was a cause for none
+abbrev pub Became : Turn → ℕ → Attempt → Submitted → Type 0
+Became turn bodies x (Answered reply) = reply ≡ turn.reply
+Became turn bodies x other = HasCause turn.moved bodies x other
+
+-- A caller without calls stands in each history that has none under its number: so in the empty one.
+abbrev pub StandsNowhere : Type 0
+StandsNowhere = (doc : Doc) (history : History) (n : ℕ) → calls_by n history ≡ [] → Stands doc history n []
+
+-- Calls that stand in a history stand in it when changes of others come at its end.
+abbrev pub StandsLater : Type 0
+StandsLater =
+    (doc : Doc) (history more : History) (n : ℕ) (mine : List Placed) → Stands doc history n mine → calls_by n more ≡ []
+    → Stands doc (history ++ more) n mine
+
+-- With one more call at the end, answered as the document then says, they stand in the history with what it gained.
+abbrev pub StandsWithNext : Type 0
+StandsWithNext =
+    (doc : Doc) (history : History) (n : ℕ) (mine : List Placed) (x : Placed) → Stands doc history n mine → x.at ≡ length history
+    → x.reply ≡ (apply (replay doc history) x.call).reply
+    → Stands doc (history ++ gained n x.call (Answered x.reply) (apply (replay doc history) x.call).moved) n (mine ++ x ∷ [])
+
+-- The same of all that a caller tried.
+abbrev pub TriedNothing : Type 0
+TriedNothing = (doc : Doc) (bodies : ℕ) (history : History) (n : ℕ) → calls_by n history ≡ [] → Tried doc bodies history n []
+
+abbrev pub TriedLater : Type 0
+TriedLater =
+    (doc : Doc) (bodies : ℕ) (history more : History) (n : ℕ) (made : List Attempt) → Tried doc bodies history n made → calls_by n more ≡ []
+    → Tried doc bodies (history ++ more) n made
+
+-- One more attempt at the end, answered or not.
+abbrev pub TriedWithNext : Type 0
+TriedWithNext =
+    (doc : Doc) (bodies : ℕ) (history : History) (n : ℕ) (made : List Attempt) (x : Attempt) → Tried doc bodies history n made → x.at ≡ length history
+    → Became (apply (replay doc history) x.call) bodies x x.made.submitted
+    → Tried doc bodies (history ++ gained n x.call x.made.submitted (apply (replay doc history) x.call).moved) n (made ++ x ∷ [])
+
+-- Each call of the empty history moves; and of a history with one more at its end, where that one moves there.
+abbrev pub EachMovesAtFirst : Type 0
+EachMovesAtFirst = (doc : Doc) → EachMoves doc []
+
+abbrev pub EachMovesWith : Type 0
+EachMovesWith =
+    (doc : Doc) (history : History) (n : ℕ) (call : Call) → EachMoves doc history → (apply (replay doc history) call).moved ≡ true
+    → EachMoves doc (history ++ (n, call) ∷ [])
+
+-- So each still moves in a history with whatever it gained by a call.
+abbrev pub EachMovesWithGained : Type 0
+EachMovesWithGained =
+    (doc : Doc) (history : History) (n : ℕ) (call : Call) (submitted : Submitted) → EachMoves doc history
+    → EachMoves doc (history ++ gained n call submitted (apply (replay doc history) call).moved)

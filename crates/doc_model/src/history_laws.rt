@@ -1,5 +1,19 @@
 //! Laws of histories: each function's contract is one, and it does nothing.
-ghost use Rattle.doc_model.specs.HistoryLaws.{FitsWhatStands, MovesByKind, OneThread, UnmovedBetween};
+ghost use Rattle.doc_model.specs.HistoryLaws.{
+  EachMovesAtFirst,
+  EachMovesWith,
+  EachMovesWithGained,
+  FitsWhatStands,
+  MovesByKind,
+  OneThread,
+  StandsLater,
+  StandsNowhere,
+  StandsWithNext,
+  TriedLater,
+  TriedNothing,
+  TriedWithNext,
+  UnmovedBetween,
+};
 
 /// A call that moves is of a kind that may be a change. So one that only reads never is one.
 pub fn changes_are_of_their_kinds()
@@ -20,4 +34,28 @@ pub fn the_callers_are_one_thread()
 /// The replies of calls that stand in the history of a document that is kept are replies that fit.
 pub fn what_stands_fits()
     ensures { FitsWhatStands }
+{}
+
+/// As a history grows at its end, the calls of a caller stand in it: none, where none in it is under the caller's number; those
+/// that stood in it, behind which come changes of others; and these with one more call at the end, answered as the document
+/// then says, which the history gains where it moves.
+pub fn calls_stand_as_the_history_grows()
+    ensures nowhere { StandsNowhere }
+    ensures later { StandsLater }
+    ensures next { StandsWithNext }
+{}
+
+/// The same of all that a caller tried. One more attempt may be answered or not: without an answer there is a cause, and the
+/// history gains nothing.
+pub fn attempts_stand_as_the_history_grows()
+    ensures nothing { TriedNothing }
+    ensures later { TriedLater }
+    ensures next { TriedWithNext }
+{}
+
+/// Each call of a history moves where it stands, if at each step it gained what an answered call that moves there gives it.
+pub fn each_moves_as_the_history_grows()
+    ensures first { EachMovesAtFirst }
+    ensures next { EachMovesWith }
+    ensures gained { EachMovesWithGained }
 {}
