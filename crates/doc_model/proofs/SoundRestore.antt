@@ -1,17 +1,15 @@
 -- A document in which a version is restored stays sound: the new index has an id that nobody has, and names what the
 -- version's names.
-use Rattle.std.proofs.Common.{◌≡◌, ◌≢◌, ℕ, ◌+◌, ◌≤◌, refl, sym, ◌∙◌, ap, Bool, true, false, ◌&&◌, ◌==◌, nat_le, nat_lt, cond, List, [], ◌∷◌, length, Option, Some, None, option_and_then, unwrap_or, arith}
+use Rattle.std.proofs.Common.{◌≡◌, ◌≢◌, ℕ, ◌+◌, ◌≤◌, refl, sym, ◌∙◌, ap, Bool, true, false, ◌&&◌, ◌==◌, nat_le, nat_lt, List, [], ◌∷◌, length, Option, Some, None, option_and_then, unwrap_or, arith}
 use Rattle.std.specs.Prelude.{is_some}
-use Rattle.std.specs.Option.{option_or}
 use Rattle.std.proofs.lemmas.Bool.{false≢true}
 use Rattle.std.proofs.lemmas.Bool.Decides.{nat_tests}
 use Rattle.std.proofs.lemmas.List.Elements.{All-push, All-weaker, recursion_from_All}
-use Rattle.std.proofs.lemmas.List.Folds.{find-append}
 use Rattle.std.specs.List.{AllByRecursion as Each}
 use Rattle.compact_values.specs.declared.ids.ExGuid.{ExGuid}
 use Rattle.compact_values.specs.declared.ids.ExGuid.TheVariants.{Null, Id}
 use Rattle.compact_values.specs.SameIds.{same_guid, same_id}
-use Rattle.compact_values.proofs.SameIds.{guid-same, id-same, id-swap, same-id}
+use Rattle.compact_values.proofs.SameIds.{guid-same, id-same, id-swap}
 use Rattle.doc_model.specs.declared.doc.Doc.{Doc}
 use Rattle.doc_model.specs.declared.doc.Commit.{Commit}
 use Rattle.doc_model.specs.declared.element.Body.{Body}
@@ -19,15 +17,15 @@ use Rattle.doc_model.specs.declared.element.Body.TheVariants.{Index, Storage, Ce
 use Rattle.doc_model.specs.declared.element.Element.{Element}
 use Rattle.doc_model.specs.Drawing.{last_number}
 use Rattle.doc_model.specs.Files.{file}
-use Rattle.doc_model.specs.Finding.{Mappings, find_element, said, as_index}
+use Rattle.doc_model.specs.Finding.{find_element, said, as_index}
 use Rattle.doc_model.specs.Limits.{most_added, most_added_weight, most_file, most_objects, most_reached_weight}
-use Rattle.doc_model.specs.Reached.{names, reached_from}
+use Rattle.doc_model.specs.Reached.{reached_from}
 use Rattle.doc_model.specs.Sound.{IsDrawn, IsSoundElement, IsSoundCommit, Sound}
 use Rattle.doc_model.specs.Versions.{added_by_restore, index_like, new_index, restored, restore_reasons}
 use Rattle.doc_model.specs.Weights.{objects_in, objects_written, weight_of}
-use Rattle.doc_model.proofs.Added.{names-found, same-added}
+use Rattle.doc_model.proofs.Added.{names-found}
 use Rattle.doc_model.proofs.Distinct.{distinct-push}
-use Rattle.doc_model.proofs.EachItem.{all-each, each-as, each-found}
+use Rattle.doc_model.proofs.EachItem.{each-as, each-found}
 use Rattle.doc_model.proofs.LikeIndex as like
 use Rattle.doc_model.proofs.LikeIndex.{reached-like, file-like, mapping}
 use Rattle.doc_model.proofs.Reasons.{NoneHolds, not-less, or-neither}
