@@ -1,4 +1,4 @@
--- An editor that is found changes as it is replaced.
+-- To change the editor of a client is to write another in its place, and to join is to do so or to come at the end.
 use Rattle.std.proofs.Common.{◌≡◌, ◌∙◌, ℕ, ◌+◌, ◌≤◌, not, refl, ap, Bool, true, false, cond, List, [], ◌∷◌, ◌++◌, find, length, Some, None, nat_lt, arith, one-add}
 use Rattle.std.specs.List.{position, position_or_len}
 use Rattle.std.proofs.Math.ListN.{set}
