@@ -41,7 +41,6 @@ pub fn leave(alloc: Global, editors: Editors, client: Guid) -> Result<EditorPlan
 }
 
 /// The client stays until then.
-
 pub fn refresh(
     alloc: Global,
     editors: Editors,
@@ -61,7 +60,6 @@ pub fn refresh(
 }
 
 /// The client sets a key.
-
 pub fn set_key(
     alloc: Global,
     editors: Editors,
@@ -89,7 +87,6 @@ pub fn set_key(
 }
 
 /// The client removes a key.
-
 pub fn remove_key(
     alloc: Global,
     editors: Editors,
