@@ -1,8 +1,8 @@
 ghost use Rattle.std.specs.Prelude.{◌≡◌, length, find, option_map, IfOk};
-ghost use Rattle.doc_model.specs.Editing.{is_editor, other_editors, edited, with_editor, with_entry, without_key};
+ghost use Rattle.std.specs.List.{position};
+ghost use Rattle.doc_model.specs.Editing.{is_editor, other_editors, edited, with_editor};
 
-use crate::entries::{with_entry, without_key};
-use compact_values::{Copied, Guid, NoMemory, Octets, Seq, Text};
+use compact_values::{Copied, Guid, NoMemory, Seq, Text};
 use doc_model::{Editor, Editors};
 use std::alloc::Global;
 
@@ -32,7 +32,28 @@ pub fn others(alloc: Global, editors: Editors, client: Guid) -> Result<Editors, 
     Ok(all)
 }
 
+fn place(editors: &[Editor], client: Guid) -> Option<usize>
+    ensures { result ≡ position (is_editor client) editors.now }
+{
+    editors.iter().position(|e| e.client == client)
+}
+
+/// The editors with this one in place of the client's, if that is there.
+pub fn replaced(editors: Editors, client: Guid, editor: Editor) -> Editors
+    ensures { result ≡ edited client (λ x. editor) editors }
+{
+    match place(editors.as_slice(), client) {
+        None => editors,
+        Some(at) => {
+            let mut all = editors.into_vec();
+            all[at] = editor;
+            Seq::from_vec(all)
+        }
+    }
+}
+
 /// The editors with the client there until then, at its place with its keys, or else at the end without any.
+#[tactic(auto, using(crate::proofs::Edits::joins_new))]
 pub fn with_editor(
     alloc: Global,
     editors: Editors,
@@ -42,94 +63,21 @@ pub fn with_editor(
 ) -> Result<Editors, NoMemory>
     ensures { IfOk result (λ all. all ≡ with_editor client user.now until editors) }
 {
-    let mut all = Seq::new(alloc);
-    let mut found = false;
-    for e in editors.into_vec() {
-        if !found && e.client == client {
-            found = true;
-            let user = user.copied(alloc)?;
-            all.push(Editor { user, until, ..e })?;
-        } else {
-            all.push(e)?;
+    let user = user.copied(alloc)?;
+    match own_editor(editors.as_slice(), client) {
+        None => {
+            let mut all = editors;
+            all.push(Editor {
+                client,
+                user,
+                until,
+                entries: Seq::new(alloc),
+            })?;
+            Ok(all)
+        }
+        Some(own) => {
+            let own = own.copied(alloc)?;
+            Ok(replaced(editors, client, Editor { user, until, ..own }))
         }
     }
-    if !found {
-        let user = user.copied(alloc)?;
-        all.push(Editor {
-            client,
-            user,
-            until,
-            entries: Seq::new(alloc),
-        })?;
-    }
-    Ok(all)
-}
-
-/// The editors with the client there until then, at its place.
-pub fn refreshed(
-    alloc: Global,
-    editors: Editors,
-    client: Guid,
-    until: u64,
-) -> Result<Editors, NoMemory>
-    ensures { IfOk result (λ all. all ≡ edited client (λ x. record x { until = until }) editors) }
-{
-    let mut all = Seq::new(alloc);
-    let mut found = false;
-    for e in editors.into_vec() {
-        if !found && e.client == client {
-            found = true;
-            all.push(Editor { until, ..e })?;
-        } else {
-            all.push(e)?;
-        }
-    }
-    Ok(all)
-}
-
-/// The editors with this value of the client's key, at its place or else at the end of the keys.
-pub fn with_key(
-    alloc: Global,
-    editors: Editors,
-    client: Guid,
-    key: &Text,
-    value: &Octets,
-) -> Result<Editors, NoMemory>
-    ensures { IfOk result (λ all. all ≡ edited client (λ x. record x { entries = with_entry key.now value.now x.entries }) editors) }
-{
-    let mut all = Seq::new(alloc);
-    let mut found = false;
-    for e in editors.into_vec() {
-        if !found && e.client == client {
-            found = true;
-            let entries = with_entry(alloc, key, value, e.entries)?;
-            all.push(Editor { entries, ..e })?;
-        } else {
-            all.push(e)?;
-        }
-    }
-    Ok(all)
-}
-
-/// The editors without this key of the client.
-pub fn with_key_removed(
-    alloc: Global,
-    editors: Editors,
-    client: Guid,
-    key: &Text,
-) -> Result<Editors, NoMemory>
-    ensures { IfOk result (λ all. all ≡ edited client (λ x. record x { entries = without_key key.now x.entries }) editors) }
-{
-    let mut all = Seq::new(alloc);
-    let mut found = false;
-    for e in editors.into_vec() {
-        if !found && e.client == client {
-            found = true;
-            let entries = without_key(alloc, key, e.entries)?;
-            all.push(Editor { entries, ..e })?;
-        } else {
-            all.push(e)?;
-        }
-    }
-    Ok(all)
 }

@@ -2,13 +2,11 @@ ghost use Rattle.std.specs.Prelude.{◌≡◌, IfOk};
 ghost use Rattle.doc_model.specs.Editing.{becomes, on_editor, other_editors, edited, join, set_key, remove_key};
 ghost use Rattle.editors_table.specs.Turning.{IsTurn};
 
-use crate::editors::{
-    count_others, others, own_editor, refreshed, with_editor, with_key, with_key_removed,
-};
-use crate::entries::{finds_no_place, has_key, is_long};
+use crate::editors::{count_others, others, own_editor, replaced, with_editor};
+use crate::entries::{finds_no_place, has_key, is_long, with_entry, without_key};
 use crate::plan::EditorPlan;
-use compact_values::{Guid, NoMemory, Octets, Text};
-use doc_model::{Code, Editors};
+use compact_values::{Copied, Guid, NoMemory, Octets, Text};
+use doc_model::{Code, Editor, Editors};
 use std::alloc::Global;
 
 /// The client joins, or refreshes its place.
@@ -53,8 +51,9 @@ pub fn refresh(
 {
     match own_editor(editors.as_slice(), client) {
         None => Ok(EditorPlan::refuse(editors, Code::EditorUnknown)),
-        Some(_) => {
-            let after = refreshed(alloc, editors, client, until)?;
+        Some(own) => {
+            let own = own.copied(alloc)?;
+            let after = replaced(editors, client, Editor { until, ..own });
             Ok(EditorPlan::change(after))
         }
     }
@@ -78,7 +77,9 @@ pub fn set_key(
             } else if finds_no_place(key, own.entries.as_slice()) {
                 Ok(EditorPlan::refuse(editors, Code::MetadataFull))
             } else {
-                let after = with_key(alloc, editors, client, key, value)?;
+                let own = own.copied(alloc)?;
+                let entries = with_entry(alloc, key, value, own.entries)?;
+                let after = replaced(editors, client, Editor { entries, ..own });
                 Ok(EditorPlan::change(after))
             }
         }
@@ -98,7 +99,9 @@ pub fn remove_key(
         None => Ok(EditorPlan::refuse(editors, Code::EditorUnknown)),
         Some(own) => {
             if has_key(key, own.entries.as_slice()) {
-                let after = with_key_removed(alloc, editors, client, key)?;
+                let own = own.copied(alloc)?;
+                let entries = without_key(alloc, key, own.entries)?;
+                let after = replaced(editors, client, Editor { entries, ..own });
                 Ok(EditorPlan::change(after))
             } else {
                 Ok(EditorPlan::stay(editors))
