@@ -25,6 +25,8 @@ mod catalog;
 mod chains;
 mod checking;
 mod content;
+#[cfg(test)]
+mod editor_tests;
 mod file;
 mod naming;
 mod plain;
@@ -39,8 +41,14 @@ mod reaching;
 mod sayings;
 mod serials;
 #[cfg(test)]
+mod test_calls;
+#[cfg(test)]
+mod test_files;
+#[cfg(test)]
 mod tests;
 mod uploads;
+#[cfg(test)]
+mod version_tests;
 mod weighing;
 
 pub use plain::{Change, PlainCore};
