@@ -28,6 +28,8 @@ mod content;
 #[cfg(test)]
 mod editor_tests;
 mod file;
+#[cfg(test)]
+mod history_tests;
 mod naming;
 mod plain;
 mod plan_edit;
@@ -46,6 +48,8 @@ mod test_calls;
 mod test_files;
 #[cfg(test)]
 mod tests;
+#[cfg(test)]
+mod upload_tests;
 mod uploads;
 #[cfg(test)]
 mod version_tests;

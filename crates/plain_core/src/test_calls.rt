@@ -9,7 +9,7 @@ ghost use Rattle.doc_model.specs.Weights.{objects_in, objects_written};
 
 use compact_values::{Copied, ExGuid, Guid, Seq, Text};
 use doc_model::{
-    Body, Call, Coauthors, Code, Core, EditorStep, Element, Elements, Knowledge, LockKind,
+    Body, Call, Coauthors, Code, Commit, Core, EditorStep, Element, Elements, Knowledge, LockKind,
     LockStep, NumberedElement, Put, Range, Ranges, Reply, Sub,
 };
 use std::alloc::Global;
@@ -136,6 +136,22 @@ pub fn asked<C: Core>(
     Ok(reply)
 }
 
+/// What a put by `ann` is answered.
+pub fn put<C: Core>(core: &mut C, alloc: Global, moment: u32, put: Put) -> Result<Reply, Fail> {
+    asked(core, alloc, moment, "ann", Sub::Put { put })
+}
+
+/// What a restore by `ann` is answered, who carries this lock id.
+pub fn restore<C: Core>(
+    core: &mut C,
+    alloc: Global,
+    moment: u32,
+    number: u64,
+    carried: Option<Guid>,
+) -> Result<Reply, Fail> {
+    asked(core, alloc, moment, "ann", Sub::Restore { number, carried })
+}
+
 /// An upload of these elements, without flags.
 pub fn upload(index: ExGuid, expected: ExGuid, elements: Elements) -> Put {
     Put {
@@ -234,4 +250,17 @@ pub fn file(alloc: Global, bytes: &[u8]) -> Result<Reply, Fail> {
     Ok(Reply::File {
         bytes: Seq::from_vec(bytes.to_vec(alloc)?),
     })
+}
+
+/// The versions with these indexes at these moments, all by `ann`.
+pub fn versions(alloc: Global, commits: &[(ExGuid, u64)]) -> Result<Reply, Fail> {
+    let mut all = Seq::new(alloc);
+    for (index, moment) in commits {
+        all.push(Commit {
+            index: *index,
+            moment: *moment,
+            user: Text::from_str(alloc, "ann")?,
+        })?;
+    }
+    Ok(Reply::VersionList { commits: all })
 }

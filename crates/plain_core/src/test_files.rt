@@ -34,6 +34,20 @@ pub fn save(alloc: Global, bytes: &[u8], guid: Guid, expected: ExGuid) -> Result
     Ok(upload(index, expected, elements))
 }
 
+/// The index of a file with the numbers of this GUID.
+pub fn index(guid: Guid) -> ExGuid {
+    ExGuid::Id { guid, value: 1 }
+}
+
+/// The elements of a small file: the first four, and the group.
+pub fn in_parts(alloc: Global, bytes: &[u8], guid: Guid) -> Result<(Elements, Elements), Fail> {
+    let mut front = cut(alloc, bytes, guid)?.elements.into_vec();
+    let Some(group) = front.pop() else {
+        return Err("the last element is the group".into());
+    };
+    Ok((Seq::from_vec(front), only(alloc, group)?))
+}
+
 /// A list of one item.
 fn only<T: Drop>(alloc: Global, item: T) -> Result<Seq<T>, Fail> {
     let mut items = Seq::new(alloc);

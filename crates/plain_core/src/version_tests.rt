@@ -1,10 +1,9 @@
 // The versions of a document, and what restores them.
 use crate::plain::PlainCore;
-use crate::test_calls::{G, L, asked, drawn, file, pull, pulled, range, refused, stored, upload};
-use crate::test_files::{CLIENT, cut, id, next_save, save};
-use compact_values::{Copied, ExGuid, Guid, Seq, Text};
-use doc_model::{Code, Commit, Core, Doc, Element, LockStep, Put, Reply, Sub};
-use file_nodes::Chunked;
+use crate::test_calls::{G, L, asked, drawn, file, put, range, refused, restore, stored, versions};
+use crate::test_files::{CLIENT, index, save};
+use compact_values::{ExGuid, Guid};
+use doc_model::{Code, Core, LockStep, Put, Reply, Sub};
 use std::alloc::Global;
 use std::test::Fail;
 
@@ -15,54 +14,21 @@ const B: Guid = Guid { number: 0xB };
 
 const C: Guid = Guid { number: 0xC };
 
-/// The index of the file with these numbers.
-fn index(guid: Guid) -> ExGuid {
-    ExGuid::Id { guid, value: 1 }
-}
-
 /// The k-th number of the document.
 fn own(value: u32) -> ExGuid {
     ExGuid::Id { guid: G, value }
 }
 
-/// What a put by `ann` is answered.
-fn put<D: Core>(core: &mut D, alloc: Global, moment: u32, put: Put) -> Result<Reply, Fail> {
-    asked(core, alloc, moment, "ann", Sub::Put { put })
-}
-
-/// What a restore by `ann` is answered.
-fn restore<D: Core>(
-    core: &mut D,
-    alloc: Global,
-    moment: u32,
-    number: u64,
-    carried: Option<Guid>,
-) -> Result<Reply, Fail> {
-    asked(core, alloc, moment, "ann", Sub::Restore { number, carried })
-}
-
-fn versions<D: Core>(core: &mut D, alloc: Global) -> Result<Reply, Fail> {
-    asked(core, alloc, 1000, "ann", Sub::Versions)
-}
-
-/// The versions with these indexes at these moments, all by `ann`.
-fn list(alloc: Global, commits: &[(ExGuid, u64)]) -> Result<Reply, Fail> {
-    let mut all = Seq::new(alloc);
-    for (index, moment) in commits {
-        all.push(Commit {
-            index: *index,
-            moment: *moment,
-            user: Text::from_str(alloc, "ann")?,
-        })?;
-    }
-    Ok(Reply::VersionList { commits: all })
+/// The versions that there are.
+fn listed<D: Core>(core: &mut D, alloc: Global) -> Result<Reply, Fail> {
+    asked(core, alloc, 1000, "bob", Sub::Versions)
 }
 
 #[test]
 fn of_two_saves_of_one_version_the_first_is_stored(rt: HostRuntime) -> Result<(), Fail> {
     let alloc = rt.alloc();
     let mut core = PlainCore::new(alloc, G)?;
-    assert_eq!(rt; versions(&mut core, alloc)?, list(alloc, &[])?);
+    assert_eq!(rt; listed(&mut core, alloc)?, versions(alloc, &[])?);
     let first = save(alloc, b"the first file", A, ExGuid::Null)?;
     let done = put(&mut core, alloc, 10, first)?;
     assert_eq!(rt; done, stored(alloc, &[range(1, 5)])?);
@@ -80,8 +46,8 @@ fn of_two_saves_of_one_version_the_first_is_stored(rt: HostRuntime) -> Result<()
     };
     let done = put(&mut core, alloc, 30, third)?;
     assert_eq!(rt; done, stored(alloc, &[range(11, 15)])?);
-    let wanted = list(alloc, &[(index(A), 10), (index(B), 20), (index(C), 30)])?;
-    assert_eq!(rt; versions(&mut core, alloc)?, wanted);
+    let wanted = versions(alloc, &[(index(A), 10), (index(B), 20), (index(C), 30)])?;
+    assert_eq!(rt; listed(&mut core, alloc)?, wanted);
     Ok(())
 }
 
@@ -110,7 +76,7 @@ fn a_version_is_restored(rt: HostRuntime) -> Result<(), Fail> {
         (index(C), 30),
         (own(101), 40),
     ];
-    assert_eq!(rt; versions(&mut core, alloc)?, list(alloc, &wanted)?);
+    assert_eq!(rt; listed(&mut core, alloc)?, versions(alloc, &wanted)?);
     let bytes = asked(&mut core, alloc, 41, "ann", Sub::ReadFile)?;
     assert_eq!(rt; bytes, file(alloc, b"the first file")?);
     assert_eq!(rt; core.copy(alloc)?.drawn, 101);
@@ -135,7 +101,7 @@ fn each_restore_has_an_index_of_its_own(rt: HostRuntime) -> Result<(), Fail> {
         (own(1), 40),
         (own(2), 50),
     ];
-    assert_eq!(rt; versions(&mut core, alloc)?, list(alloc, &wanted)?);
+    assert_eq!(rt; listed(&mut core, alloc)?, versions(alloc, &wanted)?);
     let taken = asked(&mut core, alloc, 60, "ann", Sub::Draw { count: 1 })?;
     assert_eq!(rt; taken, drawn(3, 3));
     Ok(())
@@ -174,12 +140,12 @@ fn a_restore_keeps_to_the_lock(rt: HostRuntime) -> Result<(), Fail> {
     Ok(())
 }
 
-/// Draws all numbers that there are.
-fn draw_all<D: Core>(core: &mut D, alloc: Global) -> Result<Reply, Fail> {
+/// Draws all numbers but the last one.
+fn draw_all_but_one<D: Core>(core: &mut D, alloc: Global) -> Result<Reply, Fail> {
     for _ in 0..42_949_u32 {
         asked(core, alloc, 40, "ann", Sub::Draw { count: 100_000 })?;
     }
-    asked(core, alloc, 40, "ann", Sub::Draw { count: 67_295 })
+    asked(core, alloc, 40, "ann", Sub::Draw { count: 67_294 })
 }
 
 #[test]
@@ -187,62 +153,15 @@ fn without_a_number_nothing_is_restored(rt: HostRuntime) -> Result<(), Fail> {
     let alloc = rt.alloc();
     let mut core = PlainCore::new(alloc, G)?;
     save_three(&mut core, alloc)?;
-    let last = draw_all(&mut core, alloc)?;
-    assert_eq!(rt; last, drawn(4_294_900_001, 4_294_967_295));
+    let taken = draw_all_but_one(&mut core, alloc)?;
+    assert_eq!(rt; taken, drawn(4_294_900_001, 4_294_967_294));
+    assert_eq!(rt; restore(&mut core, alloc, 50, 1, None)?, Reply::Done);
     let before = core.copy(alloc)?;
+    assert_eq!(rt; before.drawn, 4_294_967_295);
     assert_eq!(rt;
-        restore(&mut core, alloc, 50, 1, None)?,
+        restore(&mut core, alloc, 60, 1, None)?,
         refused(Code::NoNumbers)
     );
     assert_eq!(rt; core.copy(alloc)?, before);
-    Ok(())
-}
-
-/// A file, a save behind it, and the index under which the first one is restored.
-fn nine(alloc: Global) -> Result<Vec<Element>, Fail> {
-    let Chunked { mut elements, .. } = cut(alloc, b"a small file", CLIENT)?;
-    let next = next_save(alloc, elements.as_slice())?;
-    elements.append(next)?;
-    let Some(first) = elements.as_slice().first() else {
-        return Err("a file has an index".into());
-    };
-    let restored = Element {
-        id: own(1),
-        body: first.body.copied(alloc)?,
-    };
-    elements.push(restored)?;
-    Ok(elements.into_vec())
-}
-
-#[test]
-fn clients_get_what_they_lack(rt: HostRuntime) -> Result<(), Fail> {
-    let alloc = rt.alloc();
-    let mut core = PlainCore::new(alloc, G)?;
-    let all = nine(alloc)?;
-    let first = save(alloc, b"a small file", CLIENT, ExGuid::Null)?;
-    let next = upload(id(11), id(1), next_save(alloc, first.elements.as_slice())?);
-    put(&mut core, alloc, 10, first)?;
-    // who knows the five elements gets none
-    let come = asked(&mut core, alloc, 11, "ann", pull(alloc, &[range(1, 5)])?)?;
-    assert_eq!(rt; come, pulled(alloc, id(1), &all, &[], &[range(1, 5)])?);
-    let done = put(&mut core, alloc, 20, next)?;
-    assert_eq!(rt; done, stored(alloc, &[range(6, 8)])?);
-    // then it gets the three new ones
-    let come = asked(&mut core, alloc, 21, "ann", pull(alloc, &[range(1, 5)])?)?;
-    assert_eq!(rt;
-        come,
-        pulled(alloc, id(11), &all, &[6, 7, 8], &[range(1, 8)])?
-    );
-    // who knows nothing gets what the new index reaches: neither the index nor the cell manifest of before
-    let reached = [range(2, 2), range(4, 8)];
-    let come = asked(&mut core, alloc, 22, "ann", pull(alloc, &[])?)?;
-    assert_eq!(rt;
-        come,
-        pulled(alloc, id(11), &all, &[2, 4, 5, 6, 7, 8], &reached)?
-    );
-    // a restore of the file reaches that cell manifest again, from the ninth element
-    assert_eq!(rt; restore(&mut core, alloc, 30, 1, None)?, Reply::Done);
-    let come = asked(&mut core, alloc, 31, "ann", pull(alloc, &reached)?)?;
-    assert_eq!(rt; come, pulled(alloc, own(1), &all, &[3, 9], &[range(2, 9)])?);
     Ok(())
 }
