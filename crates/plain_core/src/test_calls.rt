@@ -1,6 +1,6 @@
 // Calls that tests make, and what they are answered. Each call is first seen to be one that may be made, so that no test has
 // to prove it.
-ghost use Rattle.std.specs.Prelude.{◌≡◌, ◌≤◌, ◌↔◌, All, IsTrue};
+ghost use Rattle.std.specs.Prelude.{◌≡◌, ◌≤◌, ◌↔◌, All, IfSome, IsTrue};
 ghost use Rattle.doc_model.specs.Editing.{editor_timeout_of};
 ghost use Rattle.doc_model.specs.Limits.{most_objects};
 ghost use Rattle.doc_model.specs.LockSteps.{timeout_of};
