@@ -25,7 +25,11 @@ mod catalog;
 mod chains;
 mod checking;
 mod content;
+#[cfg(test)]
+mod editor_tests;
 mod file;
+#[cfg(test)]
+mod history_tests;
 mod naming;
 mod plain;
 mod plan_edit;
@@ -39,8 +43,16 @@ mod reaching;
 mod sayings;
 mod serials;
 #[cfg(test)]
+mod test_calls;
+#[cfg(test)]
+mod test_files;
+#[cfg(test)]
 mod tests;
+#[cfg(test)]
+mod upload_tests;
 mod uploads;
+#[cfg(test)]
+mod version_tests;
 mod weighing;
 
 pub use plain::{Change, PlainCore};

@@ -1,0 +1,266 @@
+// Calls that tests make, and what they are answered. Each call is first seen to be one that may be made, so that no test has
+// to prove it.
+ghost use Rattle.std.specs.Prelude.{◌≡◌, ◌≤◌, ◌↔◌, All, IfSome, IsTrue};
+ghost use Rattle.doc_model.specs.Editing.{editor_timeout_of};
+ghost use Rattle.doc_model.specs.Limits.{most_objects};
+ghost use Rattle.doc_model.specs.LockSteps.{timeout_of};
+ghost use Rattle.doc_model.specs.Sound.{IsValidSub, IsValidTimeout, Valid};
+ghost use Rattle.doc_model.specs.Weights.{objects_in, objects_written};
+
+use compact_values::{Copied, ExGuid, Guid, Seq, Text};
+use doc_model::{
+    Body, Call, Coauthors, Code, Commit, Core, EditorStep, Element, Elements, Knowledge, LockKind,
+    LockStep, NumberedElement, Put, Range, Ranges, Reply, Sub,
+};
+use std::alloc::Global;
+use std::test::Fail;
+
+/// The document.
+pub const G: Guid = Guid {
+    number: 0x0011_2233_4455_6677_8899_aabb_ccdd_eeff,
+};
+
+/// An exclusive lock id.
+pub const L: Guid = Guid { number: 0x10 };
+
+/// The first moment that no call has.
+const MOMENTS: u64 = 1_099_511_627_776;
+
+// How many stream objects are written in an element.
+fn objects_in(body: &Body) -> u128
+    ensures { result ≡ objects_in body.now }
+{
+    match body {
+        Body::Index {
+            manifests,
+            cells,
+            revisions,
+        } => manifests.len() as u128 + cells.len() as u128 + revisions.len() as u128,
+        Body::Storage { roots, .. } => 1 + roots.len() as u128,
+        Body::Cell { .. } => 1,
+        Body::Revision { roots, groups, .. } => 1 + roots.len() as u128 + groups.len() as u128,
+        Body::Group { objects } => 2 + 2 * objects.len() as u128,
+        Body::Blob { .. } => 1,
+    }
+}
+
+fn is_light(element: &Element) -> bool
+    ensures { IsTrue result ↔ (objects_written element.now ≤ most_objects) }
+{
+    objects_in(&element.body) < 262_144
+}
+
+fn are_light(elements: &[Element]) -> bool
+    ensures { IsTrue result ↔ All (λ e. objects_written e ≤ most_objects) elements.now }
+{
+    elements.iter().all(|element| is_light(element))
+}
+
+fn is_valid_timeout(timeout: Option<u64>) -> bool
+    ensures { IsTrue result ↔ IfSome timeout IsValidTimeout }
+{
+    match timeout {
+        Some(seconds) => seconds >= 60 && seconds <= 86_400,
+        None => true,
+    }
+}
+
+fn lock_timeout(step: &LockStep) -> Option<u64>
+    ensures { result ≡ timeout_of step.now }
+{
+    match step {
+        LockStep::TakeExclusive { timeout, .. }
+        | LockStep::RefreshExclusive { timeout, .. }
+        | LockStep::ToShared { timeout, .. }
+        | LockStep::TakeShared { timeout, .. }
+        | LockStep::RefreshShared { timeout, .. }
+        | LockStep::ToExclusive { timeout, .. } => Some(*timeout),
+        _ => None,
+    }
+}
+
+fn editor_timeout(step: &EditorStep) -> Option<u64>
+    ensures { result ≡ editor_timeout_of step.now }
+{
+    match step {
+        EditorStep::Join { timeout, .. } | EditorStep::Refresh { timeout, .. } => Some(*timeout),
+        _ => None,
+    }
+}
+
+fn is_valid_sub(sub: &Sub) -> bool
+    ensures { IsTrue result ↔ IsValidSub sub.now }
+{
+    match sub {
+        Sub::Put { put } => put.elements.len() <= 8192 && are_light(put.elements.as_slice()),
+        Sub::Lock { step } => is_valid_timeout(lock_timeout(step)),
+        Sub::Editor { step } => is_valid_timeout(editor_timeout(step)),
+        _ => true,
+    }
+}
+
+fn is_valid(call: &Call) -> bool
+    ensures { IsTrue result ↔ Valid call.now }
+{
+    call.moment < MOMENTS && is_valid_sub(&call.sub)
+}
+
+/// A call at a moment, by a user.
+pub fn call(alloc: Global, moment: u32, user: &str, sub: Sub) -> Result<Call, Fail> {
+    Ok(Call {
+        moment: u64::from(moment),
+        user: Text::from_str(alloc, user)?,
+        sub,
+    })
+}
+
+/// Whether a call changes the document, and what it is answered.
+pub fn made<C: Core>(core: &mut C, call: &Call) -> Result<(bool, Reply), Fail> {
+    if !is_valid(call) {
+        return Err("no such call may be made".into());
+    }
+    let plan = core.plan(call)?;
+    let moved = plan.moved;
+    Ok((moved, core.settle(plan)))
+}
+
+/// What is answered at a moment, to a user.
+pub fn asked<C: Core>(
+    core: &mut C,
+    alloc: Global,
+    moment: u32,
+    user: &str,
+    sub: Sub,
+) -> Result<Reply, Fail> {
+    let (_, reply) = made(core, &call(alloc, moment, user, sub)?)?;
+    Ok(reply)
+}
+
+/// What a put by `ann` is answered.
+pub fn put<C: Core>(core: &mut C, alloc: Global, moment: u32, put: Put) -> Result<Reply, Fail> {
+    asked(core, alloc, moment, "ann", Sub::Put { put })
+}
+
+/// What a restore by `ann` is answered, who carries this lock id.
+pub fn restore<C: Core>(
+    core: &mut C,
+    alloc: Global,
+    moment: u32,
+    number: u64,
+    carried: Option<Guid>,
+) -> Result<Reply, Fail> {
+    asked(core, alloc, moment, "ann", Sub::Restore { number, carried })
+}
+
+/// An upload of these elements, without flags.
+pub fn upload(index: ExGuid, expected: ExGuid, elements: Elements) -> Put {
+    Put {
+        index,
+        expected,
+        imply_null: false,
+        partial: false,
+        last: false,
+        last_writer_wins: false,
+        carried: None,
+        elements,
+    }
+}
+
+/// What a client asks that knows these ranges.
+pub fn pull(alloc: Global, known: &[Range]) -> Result<Sub, Fail> {
+    Ok(Sub::Pull {
+        knowledge: knowledge(alloc, known)?,
+    })
+}
+
+fn knowledge(alloc: Global, ranges: &[Range]) -> Result<Knowledge, Fail> {
+    let ranges: Ranges = Seq::from_vec(ranges.to_vec(alloc)?);
+    Ok(Knowledge { ranges })
+}
+
+/// These serial numbers of the document.
+pub fn range(from: u64, to: u64) -> Range {
+    Range { guid: G, from, to }
+}
+
+pub fn refused(code: Code) -> Reply {
+    Reply::Refused { code }
+}
+
+pub fn drawn(least: u64, greatest: u64) -> Reply {
+    Reply::Drawn {
+        guid: G,
+        least,
+        greatest,
+    }
+}
+
+pub fn locked(kind: LockKind, status: Coauthors) -> Reply {
+    Reply::Locked {
+        guid: G,
+        kind,
+        status,
+    }
+}
+
+/// What a put is answered whose elements have these serial numbers.
+pub fn stored(alloc: Global, ranges: &[Range]) -> Result<Reply, Fail> {
+    Ok(Reply::Stored {
+        knowledge: knowledge(alloc, ranges)?,
+    })
+}
+
+/// The elements with these serial numbers of all that were added.
+fn numbered(
+    alloc: Global,
+    added: &[Element],
+    serials: &[usize],
+) -> Result<Seq<NumberedElement>, Fail> {
+    let mut elements = Seq::new(alloc);
+    for serial in serials {
+        let Some(element) = added.get(serial.wrapping_sub(1)) else {
+            return Err("no element has this serial number".into());
+        };
+        elements.push(NumberedElement {
+            serial: *serial as u64,
+            element: element.copied(alloc)?,
+        })?;
+    }
+    Ok(elements)
+}
+
+/// What a pull is answered that brings the elements with these serial numbers, of all that were added.
+pub fn pulled(
+    alloc: Global,
+    index: ExGuid,
+    added: &[Element],
+    serials: &[usize],
+    known: &[Range],
+) -> Result<Reply, Fail> {
+    Ok(Reply::Pulled {
+        guid: G,
+        index,
+        elements: numbered(alloc, added, serials)?,
+        knowledge: knowledge(alloc, known)?,
+    })
+}
+
+/// The file that has these bytes.
+pub fn file(alloc: Global, bytes: &[u8]) -> Result<Reply, Fail> {
+    Ok(Reply::File {
+        bytes: Seq::from_vec(bytes.to_vec(alloc)?),
+    })
+}
+
+/// The versions with these indexes at these moments, all by `ann`.
+pub fn versions(alloc: Global, commits: &[(ExGuid, u64)]) -> Result<Reply, Fail> {
+    let mut all = Seq::new(alloc);
+    for (index, moment) in commits {
+        all.push(Commit {
+            index: *index,
+            moment: *moment,
+            user: Text::from_str(alloc, "ann")?,
+        })?;
+    }
+    Ok(Reply::VersionList { commits: all })
+}
