@@ -52,11 +52,7 @@ impl PlainCore {
 }
 
 // The file at an index of which all is there.
-fn file_of_version(
-    alloc: Global,
-    added: &[Element],
-    index: ExGuid,
-) -> Result<Octets, NoMemory>
+fn file_of_version(alloc: Global, added: &[Element], index: ExGuid) -> Result<Octets, NoMemory>
     requires { is_whole added.now index ≡ true }
     ensures { IfOk result (λ bytes. file added.now index ≡ Some bytes) }
 {

@@ -72,11 +72,7 @@ fn index_like(
 }
 
 // Why a document with these elements, the last of which is the index of this id, would be too much.
-fn limit_refusal(
-    alloc: Global,
-    catalog: &Catalog<'_>,
-    id: ExGuid,
-) -> Result<Option<Code>, NoMemory>
+fn limit_refusal(alloc: Global, catalog: &Catalog<'_>, id: ExGuid) -> Result<Option<Code>, NoMemory>
     requires few { all_few (listed catalog.now) ≡ true }
     requires whole { is_whole (listed catalog.now) id ≡ true }
     ensures { IfOk result (λ r. r ≡ first_refusal ((too_much_added (listed catalog.now), codes.StorageLimit) ∷ (too_large (listed catalog.now) id, codes.StorageLimit) ∷ [])) }
@@ -132,12 +128,7 @@ impl PlainCore {
     }
 
     // Plans what restores a version of which all is there.
-    fn plan_version(
-        &self,
-        moment: u64,
-        user: &Text,
-        old: &Commit,
-    ) -> Result<Plan<Change>, NoMemory>
+    fn plan_version(&self, moment: u64, user: &Text, old: &Commit) -> Result<Plan<Change>, NoMemory>
         requires { is_whole self.now.added.items old.now.index ≡ true }
         ensures { IfOk result (λ p. IsPlanned (unless (restore_refusal (doc_of self.now) old.now) (doc_of self.now) (restored (doc_of self.now) moment user.now old.now)) p (leads_to (doc_of self.now) p.fresh)) }
     {
