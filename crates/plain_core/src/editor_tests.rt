@@ -56,7 +56,8 @@ fn an_editor_has_few_and_short_keys(rt: HostRuntime) -> Result<(), Fail> {
 fn sixty_four_clients_edit(rt: HostRuntime) -> Result<(), Fail> {
     let mut table = Table::new(rt.alloc());
     table.moves(0, join(E, 100), Ok(Reply::Done));
-    for number in 1000..1063_u128 {
+    for place in 0..63_u64 {
+        let number = 1000 + u128::from(place);
         table.moves(0, join(Guid { number }, 200), Ok(Reply::Done));
     }
     table.stays(99, join(F, 60), refused(Code::EditorsFull));
