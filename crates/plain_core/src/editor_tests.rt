@@ -1,8 +1,8 @@
 // The editors of a document.
-use crate::plain::PlainCore;
-use crate::test_calls::{G, asked, refused};
-use compact_values::{Guid, Octets, Text};
-use doc_model::{Code, Core, EditorStep, Reply, Sub};
+use crate::test_calls::{Fault, join, leave, refused, remove_key, set_key};
+use crate::test_table::{Table, play};
+use compact_values::{Guid, Text};
+use doc_model::{Code, Reply, Sub};
 use std::alloc::Global;
 use std::test::Fail;
 
@@ -11,107 +11,57 @@ const E: Guid = Guid { number: 0x30 };
 
 const F: Guid = Guid { number: 0x31 };
 
-/// What a step is answered.
-fn step<C: Core>(
-    core: &mut C,
-    alloc: Global,
-    moment: u32,
-    step: EditorStep,
-) -> Result<Reply, Fail> {
-    asked(core, alloc, moment, "ann", Sub::Editor { step })
-}
-
-fn is_alone<C: Core>(core: &mut C, alloc: Global, moment: u32) -> Result<bool, Fail> {
-    match asked(core, alloc, moment, "ann", Sub::AmIAlone)? {
-        Reply::Lone { alone } => Ok(alone),
-        _ => Err("the answer is whether one is alone".into()),
-    }
-}
-
-fn join(client: Guid, timeout: u64) -> EditorStep {
-    EditorStep::Join { client, timeout }
-}
-
-/// E sets this key to nothing.
-fn set(alloc: Global, key: &str) -> Result<EditorStep, Fail> {
-    Ok(EditorStep::SetKey {
-        client: E,
-        key: Text::from_str(alloc, key)?,
-        value: Octets::new(alloc),
-    })
+fn lone(alone: bool) -> Result<Reply, Fault> {
+    Ok(Reply::Lone { alone })
 }
 
 #[test]
 fn editors_know_whether_they_are_alone(rt: HostRuntime) -> Result<(), Fail> {
-    let alloc = rt.alloc();
-    let mut core = PlainCore::new(alloc, G)?;
-    assert!(rt; is_alone(&mut core, alloc, 0)?);
-    assert_eq!(rt; step(&mut core, alloc, 0, join(E, 3600))?, Reply::Done);
-    assert!(rt; is_alone(&mut core, alloc, 1)?);
-    assert_eq!(rt; step(&mut core, alloc, 1, join(F, 60))?, Reply::Done);
-    assert!(rt; !is_alone(&mut core, alloc, 60)?);
+    let mut table = Table::new(rt.alloc());
+    table.stays(0, Ok(Sub::AmIAlone), lone(true));
+    table.moves(0, join(E, 3600), Ok(Reply::Done));
+    table.stays(1, Ok(Sub::AmIAlone), lone(true));
+    table.moves(1, join(F, 60), Ok(Reply::Done));
+    table.stays(60, Ok(Sub::AmIAlone), lone(false));
     // F is there until 61
-    assert!(rt; is_alone(&mut core, alloc, 61)?);
-    let left = step(&mut core, alloc, 61, EditorStep::Leave { client: F })?;
-    assert_eq!(rt; left, refused(Code::EditorUnknown));
-    Ok(())
+    table.stays(61, Ok(Sub::AmIAlone), lone(true));
+    table.stays(61, leave(F), refused(Code::EditorUnknown));
+    play(&rt, table)
 }
 
-/// A text of so many letters.
-fn letters(alloc: Global, count: usize) -> Result<Text, Fail> {
+/// E sets a key of so many letters.
+fn set_letters(alloc: Global, count: usize) -> Result<Sub, Fault> {
     let mut text = Text::new(alloc);
     for _ in 0..count {
         text.push_str("a")?;
     }
-    Ok(text)
+    set_key(alloc, E, text.as_str())
 }
 
 #[test]
 fn an_editor_has_few_and_short_keys(rt: HostRuntime) -> Result<(), Fail> {
     let alloc = rt.alloc();
-    let mut core = PlainCore::new(alloc, G)?;
-    assert_eq!(rt; step(&mut core, alloc, 0, join(E, 3600))?, Reply::Done);
-    let long = set(alloc, letters(alloc, 1025)?.as_str())?;
-    assert_eq!(rt;
-        step(&mut core, alloc, 1, long)?,
-        refused(Code::MetadataLong)
-    );
+    let mut table = Table::new(alloc);
+    table.moves(0, join(E, 3600), Ok(Reply::Done));
+    table.stays(1, set_letters(alloc, 1025), refused(Code::MetadataLong));
     for key in ["1", "2", "3", "4", "5", "6", "7", "8"] {
-        assert_eq!(rt; step(&mut core, alloc, 2, set(alloc, key)?)?, Reply::Done);
+        table.moves(2, set_key(alloc, E, key), Ok(Reply::Done));
     }
-    let ninth = step(&mut core, alloc, 3, set(alloc, "9")?)?;
-    assert_eq!(rt; ninth, refused(Code::MetadataFull));
-    let before = core.copy(alloc)?;
-    let remove = EditorStep::RemoveKey {
-        client: E,
-        key: Text::from_str(alloc, "9")?,
-    };
-    assert_eq!(rt; step(&mut core, alloc, 4, remove)?, Reply::Done);
-    assert_eq!(rt; core.copy(alloc)?, before);
-    Ok(())
-}
-
-/// Lets 64 clients join, the first one until 100 and the others until 200.
-fn fill<C: Core>(core: &mut C, alloc: Global) -> Result<(), Fail> {
-    for place in 0..64_u32 {
-        let client = Guid {
-            number: 1000 + u128::from(place),
-        };
-        let timeout = if place == 0 { 100 } else { 200 };
-        if step(core, alloc, 0, join(client, timeout))? != Reply::Done {
-            return Err("64 clients may join".into());
-        }
-    }
-    Ok(())
+    table.stays(3, set_key(alloc, E, "9"), refused(Code::MetadataFull));
+    table.stays(4, remove_key(alloc, E, "9"), Ok(Reply::Done));
+    play(&rt, table)
 }
 
 #[test]
 fn sixty_four_clients_edit(rt: HostRuntime) -> Result<(), Fail> {
-    let alloc = rt.alloc();
-    let mut core = PlainCore::new(alloc, G)?;
-    fill(&mut core, alloc)?;
-    let full = step(&mut core, alloc, 99, join(E, 60))?;
-    assert_eq!(rt; full, refused(Code::EditorsFull));
-    assert_eq!(rt; step(&mut core, alloc, 100, join(E, 60))?, Reply::Done);
-    Ok(())
+    let mut table = Table::new(rt.alloc());
+    table.moves(0, join(E, 100), Ok(Reply::Done));
+    for place in 0..63_u64 {
+        let number = 1000 + u128::from(place);
+        table.moves(0, join(Guid { number }, 200), Ok(Reply::Done));
+    }
+    table.stays(99, join(F, 60), refused(Code::EditorsFull));
+    // the place of E, which is there until 100
+    table.moves(100, join(F, 60), Ok(Reply::Done));
+    play(&rt, table)
 }

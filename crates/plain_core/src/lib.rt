@@ -47,6 +47,8 @@ mod test_calls;
 #[cfg(test)]
 mod test_files;
 #[cfg(test)]
+mod test_table;
+#[cfg(test)]
 mod tests;
 #[cfg(test)]
 mod upload_tests;

@@ -1,5 +1,5 @@
 // Calls that tests make, and what they are answered. Each call is first seen to be one that may be made, so that no test has
-// to prove it.
+// to prove it. What takes memory is a result, which a `Table` takes as it is.
 ghost use Rattle.std.specs.Prelude.{◌≡◌, ◌≤◌, ◌↔◌, All, IfSome, IsTrue};
 ghost use Rattle.doc_model.specs.Editing.{editor_timeout_of};
 ghost use Rattle.doc_model.specs.Limits.{most_objects};
@@ -7,13 +7,29 @@ ghost use Rattle.doc_model.specs.LockSteps.{timeout_of};
 ghost use Rattle.doc_model.specs.Sound.{IsValidSub, IsValidTimeout, Valid};
 ghost use Rattle.doc_model.specs.Weights.{objects_in, objects_written};
 
-use compact_values::{Copied, ExGuid, Guid, Seq, Text};
+use compact_values::{Copied, ExGuid, Guid, NoMemory, Octets, Seq, Text};
 use doc_model::{
     Body, Call, Coauthors, Code, Commit, Core, EditorStep, Element, Elements, Knowledge, LockKind,
-    LockStep, NumberedElement, Put, Range, Ranges, Reply, Sub,
+    LockStep, Numbered, NumberedElement, Put, Range, Reply, Sub,
 };
 use std::alloc::Global;
-use std::test::Fail;
+
+/// Why a test can't be made.
+#[derive(Clone, Copy, Debug, PartialEq, Eq)]
+pub enum Fault {
+    /// No memory was left.
+    NoMemory,
+    /// No such call may be made.
+    NotValid,
+    /// No such element is there.
+    NotThere,
+}
+
+impl From<NoMemory> for Fault {
+    fn from(_fault: NoMemory) -> Fault {
+        Fault::NoMemory
+    }
+}
 
 /// The document.
 pub const G: Guid = Guid {
@@ -106,7 +122,7 @@ fn is_valid(call: &Call) -> bool
 }
 
 /// A call at a moment, by a user.
-pub fn call(alloc: Global, moment: u32, user: &str, sub: Sub) -> Result<Call, Fail> {
+pub fn call(alloc: Global, moment: u32, user: &str, sub: Sub) -> Result<Call, Fault> {
     Ok(Call {
         moment: u64::from(moment),
         user: Text::from_str(alloc, user)?,
@@ -115,41 +131,13 @@ pub fn call(alloc: Global, moment: u32, user: &str, sub: Sub) -> Result<Call, Fa
 }
 
 /// Whether a call changes the document, and what it is answered.
-pub fn made<C: Core>(core: &mut C, call: &Call) -> Result<(bool, Reply), Fail> {
+pub fn made<C: Core>(core: &mut C, call: &Call) -> Result<(bool, Reply), Fault> {
     if !is_valid(call) {
-        return Err("no such call may be made".into());
+        return Err(Fault::NotValid);
     }
     let plan = core.plan(call)?;
     let moved = plan.moved;
     Ok((moved, core.settle(plan)))
-}
-
-/// What is answered at a moment, to a user.
-pub fn asked<C: Core>(
-    core: &mut C,
-    alloc: Global,
-    moment: u32,
-    user: &str,
-    sub: Sub,
-) -> Result<Reply, Fail> {
-    let (_, reply) = made(core, &call(alloc, moment, user, sub)?)?;
-    Ok(reply)
-}
-
-/// What a put by `ann` is answered.
-pub fn put<C: Core>(core: &mut C, alloc: Global, moment: u32, put: Put) -> Result<Reply, Fail> {
-    asked(core, alloc, moment, "ann", Sub::Put { put })
-}
-
-/// What a restore by `ann` is answered, who carries this lock id.
-pub fn restore<C: Core>(
-    core: &mut C,
-    alloc: Global,
-    moment: u32,
-    number: u64,
-    carried: Option<Guid>,
-) -> Result<Reply, Fail> {
-    asked(core, alloc, moment, "ann", Sub::Restore { number, carried })
 }
 
 /// An upload of these elements, without flags.
@@ -166,16 +154,56 @@ pub fn upload(index: ExGuid, expected: ExGuid, elements: Elements) -> Put {
     }
 }
 
+pub fn draw(count: u64) -> Result<Sub, Fault> {
+    Ok(Sub::Draw { count })
+}
+
 /// What a client asks that knows these ranges.
-pub fn pull(alloc: Global, known: &[Range]) -> Result<Sub, Fail> {
+pub fn pull(alloc: Global, known: &[Range]) -> Result<Sub, Fault> {
     Ok(Sub::Pull {
         knowledge: knowledge(alloc, known)?,
     })
 }
 
-fn knowledge(alloc: Global, ranges: &[Range]) -> Result<Knowledge, Fail> {
-    let ranges: Ranges = Seq::from_vec(ranges.to_vec(alloc)?);
-    Ok(Knowledge { ranges })
+pub fn lock(step: LockStep) -> Result<Sub, Fault> {
+    Ok(Sub::Lock { step })
+}
+
+pub fn join(client: Guid, timeout: u64) -> Result<Sub, Fault> {
+    let step = EditorStep::Join { client, timeout };
+    Ok(Sub::Editor { step })
+}
+
+pub fn leave(client: Guid) -> Result<Sub, Fault> {
+    let step = EditorStep::Leave { client };
+    Ok(Sub::Editor { step })
+}
+
+/// The client sets this key to nothing.
+pub fn set_key(alloc: Global, client: Guid, key: &str) -> Result<Sub, Fault> {
+    let step = EditorStep::SetKey {
+        client,
+        key: Text::from_str(alloc, key)?,
+        value: Octets::new(alloc),
+    };
+    Ok(Sub::Editor { step })
+}
+
+pub fn remove_key(alloc: Global, client: Guid, key: &str) -> Result<Sub, Fault> {
+    let key = Text::from_str(alloc, key)?;
+    let step = EditorStep::RemoveKey { client, key };
+    Ok(Sub::Editor { step })
+}
+
+/// A restore by who carries this lock id.
+pub fn restore(number: u64, carried: Option<Guid>) -> Result<Sub, Fault> {
+    Ok(Sub::Restore { number, carried })
+}
+
+fn knowledge(alloc: Global, ranges: &[Range]) -> Result<Knowledge, Fault> {
+    Ok(Knowledge {
+        ranges: Seq::copied_from(alloc, ranges)?,
+    })
 }
 
 /// These serial numbers of the document.
@@ -183,43 +211,39 @@ pub fn range(from: u64, to: u64) -> Range {
     Range { guid: G, from, to }
 }
 
-pub fn refused(code: Code) -> Reply {
-    Reply::Refused { code }
+pub fn refused(code: Code) -> Result<Reply, Fault> {
+    Ok(Reply::Refused { code })
 }
 
-pub fn drawn(least: u64, greatest: u64) -> Reply {
-    Reply::Drawn {
+pub fn drawn(least: u64, greatest: u64) -> Result<Reply, Fault> {
+    Ok(Reply::Drawn {
         guid: G,
         least,
         greatest,
-    }
+    })
 }
 
-pub fn locked(kind: LockKind, status: Coauthors) -> Reply {
-    Reply::Locked {
+pub fn locked(kind: LockKind, status: Coauthors) -> Result<Reply, Fault> {
+    Ok(Reply::Locked {
         guid: G,
         kind,
         status,
-    }
+    })
 }
 
 /// What a put is answered whose elements have these serial numbers.
-pub fn stored(alloc: Global, ranges: &[Range]) -> Result<Reply, Fail> {
+pub fn stored(alloc: Global, ranges: &[Range]) -> Result<Reply, Fault> {
     Ok(Reply::Stored {
         knowledge: knowledge(alloc, ranges)?,
     })
 }
 
 /// The elements with these serial numbers of all that were added.
-fn numbered(
-    alloc: Global,
-    added: &[Element],
-    serials: &[usize],
-) -> Result<Seq<NumberedElement>, Fail> {
+fn numbered(alloc: Global, added: &[Element], serials: &[usize]) -> Result<Numbered, Fault> {
     let mut elements = Seq::new(alloc);
     for serial in serials {
         let Some(element) = added.get(serial.wrapping_sub(1)) else {
-            return Err("no element has this serial number".into());
+            return Err(Fault::NotThere);
         };
         elements.push(NumberedElement {
             serial: *serial as u64,
@@ -236,7 +260,7 @@ pub fn pulled(
     added: &[Element],
     serials: &[usize],
     known: &[Range],
-) -> Result<Reply, Fail> {
+) -> Result<Reply, Fault> {
     Ok(Reply::Pulled {
         guid: G,
         index,
@@ -246,14 +270,14 @@ pub fn pulled(
 }
 
 /// The file that has these bytes.
-pub fn file(alloc: Global, bytes: &[u8]) -> Result<Reply, Fail> {
-    Ok(Reply::File {
-        bytes: Seq::from_vec(bytes.to_vec(alloc)?),
-    })
+pub fn file(alloc: Global, bytes: &[u8]) -> Result<Reply, Fault> {
+    let mut all = Octets::new(alloc);
+    all.extend_from_slice(bytes)?;
+    Ok(Reply::File { bytes: all })
 }
 
 /// The versions with these indexes at these moments, all by `ann`.
-pub fn versions(alloc: Global, commits: &[(ExGuid, u64)]) -> Result<Reply, Fail> {
+pub fn versions(alloc: Global, commits: &[(ExGuid, u64)]) -> Result<Reply, Fault> {
     let mut all = Seq::new(alloc);
     for (index, moment) in commits {
         all.push(Commit {

@@ -1,11 +1,10 @@
 // Numbers and locks of a document, and plans that are dropped.
 use crate::plain::PlainCore;
-use crate::test_calls::{G, L, asked, drawn, locked, put, refused, upload};
+use crate::test_calls::{Fault, G, L, draw, drawn, lock, locked, refused, upload};
 use crate::test_files::id;
+use crate::test_table::{Table, play};
 use compact_values::{ExGuid, Guid, NoMemory, Seq, Text};
-use doc_model::{
-    Call, Coauthors, Code, Core, Doc, LockKind, LockRecord, LockStep, Put, Reply, Sub,
-};
+use doc_model::{Call, Coauthors, Code, Core, Doc, LockKind, LockRecord, LockStep, Put, Sub};
 use std::alloc::Global;
 use std::test::Fail;
 
@@ -27,35 +26,22 @@ fn plan_draw<C: Core>(core: &mut C, alloc: Global) -> Result<bool, Fail> {
     Ok(plan.moved)
 }
 
-fn draw<C: Core>(core: &mut C, alloc: Global, count: u64) -> Result<Reply, Fail> {
-    asked(core, alloc, 0, "ann", Sub::Draw { count })
-}
-
 /// A put without elements, whose index is nowhere.
-fn empty_put(alloc: Global, carried: Option<Guid>) -> Put {
-    Put {
+fn empty_put(alloc: Global, carried: Option<Guid>) -> Result<Sub, Fault> {
+    let put = Put {
         carried,
         ..upload(id(1), ExGuid::Null, Seq::new(alloc))
-    }
-}
-
-/// Takes the lock L until 1000.
-fn lock<C: Core>(core: &mut C, alloc: Global) -> Result<Reply, Fail> {
-    let step = LockStep::TakeExclusive {
-        id: L,
-        timeout: 1000,
     };
-    asked(core, alloc, 0, "ann", Sub::Lock { step })
+    Ok(Sub::Put { put })
 }
 
-fn join<C: Core>(core: &mut C, alloc: Global, client: Guid) -> Result<Reply, Fail> {
-    let step = LockStep::TakeShared {
+fn share(client: Guid) -> Result<Sub, Fault> {
+    lock(LockStep::TakeShared {
         schema: S,
         client,
         timeout: 3600,
         coauthor: true,
-    };
-    asked(core, alloc, 0, "ann", Sub::Lock { step })
+    })
 }
 
 /// A new document, taken over from its copy.
@@ -65,28 +51,26 @@ fn taken_over(alloc: Global) -> Result<PlainCore, NoMemory> {
     PlainCore::from_doc(alloc, copy)
 }
 
-/// A document without anything but numbers drawn and a lock.
-fn doc_with(alloc: Global, lock: LockRecord, drawn: u64) -> Doc {
+/// A document without anything.
+fn empty_doc(alloc: Global) -> Doc {
     Doc {
         guid: G,
         added: Seq::new(alloc),
         commits: Seq::new(alloc),
-        lock,
+        lock: LockRecord::Free,
         editors: Seq::new(alloc),
         parts: Seq::new(alloc),
-        drawn,
+        drawn: 0,
     }
 }
 
 #[test]
 fn numbers_are_drawn_in_order(rt: HostRuntime) -> Result<(), Fail> {
-    let alloc = rt.alloc();
-    let mut core = PlainCore::new(alloc, G)?;
-    assert!(rt; draw(&mut core, alloc, 1000)? == drawn(1, 1000));
-    assert!(rt; draw(&mut core, alloc, 1000)? == drawn(1001, 2000));
-    assert!(rt; draw(&mut core, alloc, 100_001)? == refused(Code::NotSupported));
-    assert!(rt; core.copy(alloc)? == doc_with(alloc, LockRecord::Free, 2000));
-    Ok(())
+    let mut table = Table::new(rt.alloc());
+    table.moves(0, draw(1000), drawn(1, 1000));
+    table.moves(0, draw(1000), drawn(1001, 2000));
+    table.stays(0, draw(100_001), refused(Code::NotSupported));
+    play(&rt, table)
 }
 
 #[test]
@@ -94,34 +78,32 @@ fn a_dropped_plan_changes_nothing(rt: HostRuntime) -> Result<(), Fail> {
     let alloc = rt.alloc();
     let mut core = PlainCore::new(alloc, G)?;
     assert!(rt; plan_draw(&mut core, alloc)?);
-    assert!(rt; core.copy(alloc)? == doc_with(alloc, LockRecord::Free, 0));
+    assert!(rt; core.copy(alloc)? == empty_doc(alloc));
     Ok(())
 }
 
 #[test]
 fn an_exclusive_lock_keeps_puts_out_until_its_end(rt: HostRuntime) -> Result<(), Fail> {
     let alloc = rt.alloc();
-    let mut core = PlainCore::new(alloc, G)?;
+    let mut table = Table::new(alloc);
+    let take = LockStep::TakeExclusive {
+        id: L,
+        timeout: 1000,
+    };
     let taken = locked(LockKind::Exclusive, Coauthors::Nobody);
-    assert!(rt; lock(&mut core, alloc)? == taken);
-    let kept_out = put(&mut core, alloc, 999, empty_put(alloc, None))?;
-    assert!(rt; kept_out == refused(Code::AlreadyLocked));
-    let own = put(&mut core, alloc, 999, empty_put(alloc, Some(L)))?;
-    assert!(rt; own == refused(Code::NotFound));
-    let at_end = put(&mut core, alloc, 1000, empty_put(alloc, None))?;
-    assert!(rt; at_end == refused(Code::NotFound));
-    Ok(())
+    table.moves(0, lock(take), taken);
+    table.stays(999, empty_put(alloc, None), refused(Code::AlreadyLocked));
+    table.stays(999, empty_put(alloc, Some(L)), refused(Code::NotFound));
+    table.stays(1000, empty_put(alloc, None), refused(Code::NotFound));
+    play(&rt, table)
 }
 
 #[test]
 fn coauthors_join(rt: HostRuntime) -> Result<(), Fail> {
-    let alloc = rt.alloc();
-    let mut core = PlainCore::new(alloc, G)?;
-    let alone = locked(LockKind::Schema, Coauthors::Alone);
-    assert!(rt; join(&mut core, alloc, A)? == alone);
-    let several = locked(LockKind::Schema, Coauthors::Several);
-    assert!(rt; join(&mut core, alloc, B)? == several);
-    Ok(())
+    let mut table = Table::new(rt.alloc());
+    table.moves(0, share(A), locked(LockKind::Schema, Coauthors::Alone));
+    table.moves(0, share(B), locked(LockKind::Schema, Coauthors::Several));
+    play(&rt, table)
 }
 
 #[test]
@@ -129,6 +111,6 @@ fn an_empty_document_is_taken_over(rt: HostRuntime) -> Result<(), Fail> {
     let alloc = rt.alloc();
     let core = taken_over(alloc)?;
     assert!(rt; core.guid() == G);
-    assert!(rt; core.copy(alloc)? == doc_with(alloc, LockRecord::Free, 0));
+    assert!(rt; core.copy(alloc)? == empty_doc(alloc));
     Ok(())
 }
