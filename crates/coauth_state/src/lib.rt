@@ -21,3 +21,6 @@ pub use members::one_member;
 pub use plan::LockPlan;
 pub use shared_step::{is_shared_step, shared};
 pub use standing::Standing;
+
+#[cfg(test)]
+mod tests;
