@@ -69,10 +69,6 @@ new-joins xs y q new = place-append y q xs ∙ by_test (same_id y q) refl
         rw gone (rw e refl)
     by_test false e = rw e (none (place_of xs q))
 
-pub none-from-test : (o : Option ℕ) → is_some o ≡ false → o ≡ None
-none-from-test None h = refl
-none-from-test (Some k) h = cc
-
 -- an id has a place where it is in the list
 pub place-among : (xs : List ExGuid) (id : ExGuid) → is_some (place_of xs id) ≡ list_any (same_id id) xs
 place-among [] id = refl
@@ -82,3 +78,12 @@ place-among (x ∷ xs) id = by_test (same_id x id) (same_id id x) (place_of xs i
     by_test true c o e later = rw (sym e) refl
     by_test false c None e later = rw (sym e) later
     by_test false c (Some k) e later = rw (sym e) later
+
+-- where the id was there already, its first place is put back
+pub first-stays : (xs : List ExGuid) (y q : ExGuid) (first here : ℕ) → place_of xs y ≡ Some first
+    → cond (same_id y q) (Some first) (cond (same_id y q) (Some here) (place_of xs q)) ≡ place_of (xs ++ y ∷ []) q
+first-stays xs y q first here known = by_test (same_id y q) refl ∙ sym (known-stays xs y q (ap is_some known))
+  where
+    by_test : (b : Bool) → same_id y q ≡ b → cond (same_id y q) (Some first) (cond (same_id y q) (Some here) (place_of xs q)) ≡ place_of xs q
+    by_test true e = rw e (sym known ∙ ap (place_of xs) (id-same y q e))
+    by_test false e = rw e refl

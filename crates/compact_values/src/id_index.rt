@@ -72,11 +72,14 @@ impl IdIndex {
     {
         let place = self.ids.len();
         self.ids.push(id)?;
-        if self.places.contains_key(&key_of(id)) {
-            return Ok(());
-        }
-        match self.places.insert(key_of(id), place) {
-            Ok(_) => Ok(()),
+        let key = key_of(id);
+        match self.places.insert(key, place) {
+            Ok(None) => Ok(()),
+            // The id was there already, and its first place counts.
+            Ok(Some(first)) => match self.places.insert(key, first) {
+                Ok(_) => Ok(()),
+                Err(_) => unreachable!(),
+            },
             Err(_) => {
                 self.ids.truncate(place);
                 Err(NoMemory)

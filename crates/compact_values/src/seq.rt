@@ -32,6 +32,21 @@ pub trait Same {
     /// Whether the two are equal.
     fn same(&self, other: &Self) -> bool
         ensures { IsTrue result ↔ (self.now ≡ other.now) };
+
+    /// Whether the two lists are equal. A type whose values lie in memory as bare numbers compares them as one run.
+    fn all_same(a: &[Self], b: &[Self]) -> bool
+        ensures { IsTrue result ↔ (a.now ≡ b.now) }
+    {
+        if a.len() != b.len() {
+            return false;
+        }
+        for i in 0..a.len() {
+            if !a[i].same(&b[i]) {
+                return false;
+            }
+        }
+        true
+    }
 }
 
 /// A type whose values can be copied exactly, where memory allows it.
@@ -39,6 +54,21 @@ pub trait Copied: Drop {
     /// An equal value of its own.
     fn copied(&self, alloc: Global) -> Result<Self, NoMemory>
         ensures { IfOk result (λ it. it ≡ self.now) };
+
+    /// A list with equal values. A type whose values lie in memory as bare numbers copies them as one run.
+    fn all_copied(alloc: Global, items: &[Self]) -> Result<Vec<Self>, NoMemory>
+        ensures { IfOk result (λ all. all.items ≡ items.now) }
+    {
+        let Ok(mut all) = Vec::with_capacity(alloc, items.len()) else {
+            return Err(NoMemory);
+        };
+        for item in items {
+            let Ok(()) = all.push(item.copied(alloc)?) else {
+                return Err(NoMemory);
+            };
+        }
+        Ok(all)
+    }
 }
 
 impl<T> Seq<T> {
@@ -149,22 +179,8 @@ impl<T: Eq> Eq for Seq<T> {
 
 impl<T: Same> Same for Seq<T> {
     fn same(&self, other: &Seq<T>) -> bool {
-        all_same(self.items.as_slice(), other.items.as_slice())
+        T::all_same(self.items.as_slice(), other.items.as_slice())
     }
-}
-
-fn all_same<T: Same>(a: &[T], b: &[T]) -> bool
-    ensures { IsTrue result ↔ (a.now ≡ b.now) }
-{
-    if a.len() != b.len() {
-        return false;
-    }
-    for i in 0..a.len() {
-        if !a[i].same(&b[i]) {
-            return false;
-        }
-    }
-    true
 }
 
 impl<T: Copied> Seq<T> {
@@ -173,7 +189,7 @@ impl<T: Copied> Seq<T> {
         ensures { IfOk result (λ all. all ≡ items.now) }
     {
         Ok(Seq {
-            items: all_copied(alloc, items)?,
+            items: T::all_copied(alloc, items)?,
         })
     }
 }
@@ -181,28 +197,18 @@ impl<T: Copied> Seq<T> {
 impl<T: Copied> Copied for Seq<T> {
     fn copied(&self, alloc: Global) -> Result<Seq<T>, NoMemory> {
         Ok(Seq {
-            items: all_copied(alloc, self.items.as_slice())?,
+            items: T::all_copied(alloc, self.items.as_slice())?,
         })
     }
-}
-
-fn all_copied<T: Copied>(alloc: Global, items: &[T]) -> Result<Vec<T>, NoMemory>
-    ensures { IfOk result (λ v. v.items ≡ items.now) }
-{
-    let Ok(mut all) = Vec::with_capacity(alloc, items.len()) else {
-        return Err(NoMemory);
-    };
-    for item in items {
-        let Ok(()) = all.push(item.copied(alloc)?) else {
-            return Err(NoMemory);
-        };
-    }
-    Ok(all)
 }
 
 impl Same for u8 {
     fn same(&self, other: &u8) -> bool {
         *self == *other
+    }
+
+    fn all_same(a: &[u8], b: &[u8]) -> bool {
+        a == b
     }
 }
 
@@ -215,6 +221,14 @@ impl Same for Guid {
 impl Copied for u8 {
     fn copied(&self, _alloc: Global) -> Result<u8, NoMemory> {
         Ok(*self)
+    }
+
+    fn all_copied(alloc: Global, items: &[u8]) -> Result<Vec<u8>, NoMemory> {
+        let mut all = Vec::new(alloc);
+        match all.extend_from_slice(items) {
+            Ok(()) => Ok(all),
+            Err(_) => Err(NoMemory),
+        }
     }
 }
 
