@@ -42,8 +42,10 @@ pub use wire_fault::WireFault;
 pub use write::{write_element, write_knowledge, write_package};
 
 #[cfg(test)]
-mod round_tests;
+mod knowledge_tests;
+#[cfg(test)]
+mod test_bodies;
+#[cfg(test)]
+mod test_forms;
 #[cfg(test)]
 mod tests;
-#[cfg(test)]
-mod write_tests;
