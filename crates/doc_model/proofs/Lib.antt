@@ -1,3 +1,4 @@
+pub mod RegularFields
 pub mod ShortRows
 pub mod SizeLemmas
 pub mod NodeLaws

@@ -6,10 +6,12 @@ use Rattle.compact_values.specs.Ids as ids
 use Rattle.compact_values.specs.Ids.{SpellsGuid, SpellsExGuid, SpellsSerial, SpellsCellId}
 use Rattle.compact_values.specs.declared.guid.Guid.{Guid}
 use Rattle.compact_values.specs.declared.ids.ExGuid.{ExGuid}
-use Rattle.stream_objects.specs.Objects.{HasFields}
+use Rattle.stream_objects.specs.Objects.{HasFields, fields_of}
 use Rattle.stream_objects.specs.Written.{simple_object}
 use Rattle.stream_objects.specs.declared.tree.Tree.{Tree}
-use Rattle.wire_kinds.specs.Kind.{Kind, Spells, ◌▹◌, exguid, serial, cell_id}
+use Rattle.wire_kinds.specs.Kind.{Kind, Spells, ◌▹◌}
+use Rattle.wire_kinds.specs.Code.{Code, ◌▸◌}
+use Rattle.wire_kinds.specs.Code as codes
 use Rattle.wire_kinds.specs.Pairs.{joined, parted}
 use Rattle.wire_kinds.specs.Row.{IsOf, row_bytes, simple}
 use Rattle.doc_model.specs.ElementRows.{manifest_mapping, cell_mapping, revision_mapping, schema_guid, manifest_root, current_revision, revision_manifest, revision_root, group_reference}
@@ -24,54 +26,53 @@ abbrev Same : Type 0 → Type 0 → Type 0
 Same A B = (A → B) × (B → A)
 
 module _ (input : List ℕ) (t : Tree) where
-  -- two fields, and three
-  two : {A B V : Type 0} (number : ℕ) (first : Kind A) (second : Kind B) (fields : V → A × B) (v : V)
+  -- two fields, and three, each kind with how it is read
+  two : {A B V : Type 0} (number : ℕ) {first : Kind A} {second : Kind B} (f : Code first) (g : Code second) (fields : V → A × B) (v : V)
       → Same (IsOf (simple number (first ▹ second) fields) input t v) (HasFields false (SpellsBoth (Spells first) (Spells second)) input t (fields v))
-  two number first second fields v = (
-    λ h. record { mark = h.mark; fields = parted first second (fields v) _ (record { range = h.fields.range; bytes_are = h.fields.bytes_are }) },
-    λ h. let s = joined first second (fields v) _ h.fields in record { mark = h.mark; fields = record { range = s.range; bytes_are = s.bytes_are } },
+  two {A} {B} {V} number {first} {second} f g fields v = (
+    λ h. record { mark = h.mark; fields = parted first second f.take g.take f.exact g.exact (fields v) (fields_of input t) (record { range = h.fields.range; bytes_are = h.fields.bytes_are }) },
+    λ h. let s = joined first second f.take g.take f.exact g.exact (fields v) (fields_of input t) h.fields in record { mark = h.mark; fields = record { range = s.range; bytes_are = s.bytes_are } },
   )
 
-  three : {A B C V : Type 0} (number : ℕ) (first : Kind A) (second : Kind B) (third : Kind C) (fields : V → A × (B × C)) (v : V)
+  three : {A B C V : Type 0} (number : ℕ) {first : Kind A} {second : Kind B} {third : Kind C} (f : Code first) (g : Code second) (k : Code third) (fields : V → A × (B × C)) (v : V)
       → Same (IsOf (simple number (first ▹ second ▹ third) fields) input t v) (HasFields false (SpellsBoth (Spells first) (SpellsBoth (Spells second) (Spells third))) input t (fields v))
-  three number first second third fields v = (
+  three {A} {B} {C} {V} number {first} {second} {third} f g k fields v = (
     λ h.
-        let s = parted first (second ▹ third) (fields v) _ (record { range = h.fields.range; bytes_are = h.fields.bytes_are }) in
-        record {
-          mark = h.mark;
-          fields = record { front = s.front; back = s.back; first = s.first; second = parted second third (fields v).1 s.back s.second; bytes_are = s.bytes_are };
-        },
+        let s = parted first (second ▹ third) f.take (g ▸ k).take f.exact (g ▸ k).exact (fields v) (fields_of input t) (record { range = h.fields.range; bytes_are = h.fields.bytes_are }) in
+        let b = parted second third g.take k.take g.exact k.exact (fields v).1 s.back s.second in
+        record { mark = h.mark; fields = record { front = s.front; back = s.back; first = s.first; second = b; bytes_are = s.bytes_are } },
     λ h.
-        let b = joined second third (fields v).1 h.fields.back h.fields.second in
-        let s = joined first (second ▹ third) (fields v) _ (record { front = h.fields.front; back = h.fields.back; first = h.fields.first; second = b; bytes_are = h.fields.bytes_are }) in
+        let b = joined second third g.take k.take g.exact k.exact (fields v).1 h.fields.back h.fields.second in
+        let s = joined first (second ▹ third) f.take (g ▸ k).take f.exact (g ▸ k).exact (fields v) (fields_of input t)
+        (record { front = h.fields.front; back = h.fields.back; first = h.fields.first; second = b; bytes_are = h.fields.bytes_are }) in
         record { mark = h.mark; fields = record { range = s.range; bytes_are = s.bytes_are } },
   )
 
   -- ---- what an object of each type is
 
   pub manifest_mapping_is : (m : ManifestMap) → Same (IsOf manifest_mapping input t m) (HasFields false (SpellsBoth SpellsExGuid SpellsSerial) input t (m.target, m.serial))
-  manifest_mapping_is m = two 0x11 exguid serial (λ (m : ManifestMap). (m.target, m.serial)) m
+  manifest_mapping_is m = two 0x11 codes.exguid codes.serial (λ (m : ManifestMap). (m.target, m.serial)) m
 
   pub cell_mapping_is : (m : CellMap) → Same (IsOf cell_mapping input t m) (HasFields false (SpellsBoth SpellsCellId (SpellsBoth SpellsExGuid SpellsSerial)) input t (m.cell, (m.target, m.serial)))
-  cell_mapping_is m = three 0x0E cell_id exguid serial (λ (m : CellMap). (m.cell, (m.target, m.serial))) m
+  cell_mapping_is m = three 0x0E codes.cell_id codes.exguid codes.serial (λ (m : CellMap). (m.cell, (m.target, m.serial))) m
 
   pub revision_mapping_is : (m : RevisionMap) → Same (IsOf revision_mapping input t m) (HasFields false (SpellsBoth SpellsExGuid (SpellsBoth SpellsExGuid SpellsSerial)) input t (m.revision, (m.target, m.serial)))
-  revision_mapping_is m = three 0x0D exguid exguid serial (λ (m : RevisionMap). (m.revision, (m.target, m.serial))) m
+  revision_mapping_is m = three 0x0D codes.exguid codes.exguid codes.serial (λ (m : RevisionMap). (m.revision, (m.target, m.serial))) m
 
   pub schema_guid_is : (g : Guid) → Same (IsOf schema_guid input t g) (HasFields false SpellsGuid input t g)
   schema_guid_is g = (λ h. h, λ h. h)
 
   pub manifest_root_is : (r : Root) → Same (IsOf manifest_root input t r) (HasFields false (SpellsBoth SpellsExGuid SpellsCellId) input t (r.root, r.cell))
-  manifest_root_is r = two 0x07 exguid cell_id (λ (r : Root). (r.root, r.cell)) r
+  manifest_root_is r = two 0x07 codes.exguid codes.cell_id (λ (r : Root). (r.root, r.cell)) r
 
   pub current_revision_is : (id : ExGuid) → Same (IsOf current_revision input t id) (HasFields false SpellsExGuid input t id)
   current_revision_is id = (λ h. h, λ h. h)
 
   pub revision_manifest_is : (ids : ExGuid × ExGuid) → Same (IsOf revision_manifest input t ids) (HasFields false (SpellsBoth SpellsExGuid SpellsExGuid) input t ids)
-  revision_manifest_is ids = two 0x1A exguid exguid (λ (p : ExGuid × ExGuid). p) ids
+  revision_manifest_is ids = two 0x1A codes.exguid codes.exguid (λ (p : ExGuid × ExGuid). p) ids
 
   pub revision_root_is : (r : RevisionRoot) → Same (IsOf revision_root input t r) (HasFields false (SpellsBoth SpellsExGuid SpellsExGuid) input t (r.root, r.object))
-  revision_root_is r = two 0x0A exguid exguid (λ (r : RevisionRoot). (r.root, r.object)) r
+  revision_root_is r = two 0x0A codes.exguid codes.exguid (λ (r : RevisionRoot). (r.root, r.object)) r
 
   pub group_reference_is : (id : ExGuid) → Same (IsOf group_reference input t id) (HasFields false SpellsExGuid input t id)
   group_reference_is id = (λ h. h, λ h. h)
