@@ -10,7 +10,8 @@ use Rattle.stream_objects.specs.Trees.{objects}
 use Rattle.stream_objects.specs.declared.tree.Tree.{Tree}
 use Rattle.stream_objects.specs.declared.tree.Tree.TheViews.{out-Tree}
 use Rattle.stream_objects.proofs.Unique.{objects-cons, objects_out}
-use Rattle.doc_model.specs.ElementObjects.{ManifestMapping, CellMapping, RevisionMapping, ManifestRoot, IsRevisionRoot, GroupReference}
+use Rattle.wire_kinds.specs.Row.{IsOf}
+use Rattle.doc_model.specs.ElementRows.{manifest_mapping, cell_mapping, revision_mapping, manifest_root, revision_root, group_reference}
 use Rattle.doc_model.specs.Elements.{SaysBody, IsElement}
 use Rattle.doc_model.specs.Groups.{EachPair, SaysContent, SaysGroup, declarations_in, data_in}
 use Rattle.doc_model.specs.Requests.{IsRequest}
@@ -129,21 +130,21 @@ body_objects : (input : List ℕ) (t : Tree) (kind : ℕ) (body : Body) → Says
 body_objects input t kind (Index manifests cells revisions) h =
     omega (
       arith,
-      any_total 0x11 (ManifestMapping input) t manifests h.1,
-      any_total 0x0E (CellMapping input) t cells h.2,
-      any_total 0x0D (RevisionMapping input) t revisions h.3,
+      any_total 0x11 (IsOf manifest_mapping input) t manifests h.1,
+      any_total 0x0E (IsOf cell_mapping input) t cells h.2,
+      any_total 0x0D (IsOf revision_mapping input) t revisions h.3,
       apart_three (is_kind 0x11) (is_kind 0x0E) (is_kind 0x0D) (other_kind 0x11 0x0E (λ e. omega (arith, e))) (other_kind 0x11 0x0D (λ e. omega (arith, e))) (other_kind 0x0E 0x0D (λ e. omega (arith, e))) (kids t),
     )
 body_objects input t kind (Storage schema roots) h =
-    omega (arith, one_total 0x0C t h.1.0 h.1.1, some_object h.1.0, any_total 0x07 (ManifestRoot input) t roots h.2, apart (is_kind 0x0C) (is_kind 0x07) (other_kind 0x0C 0x07 (λ e. omega (arith, e))) (kids t))
+    omega (arith, one_total 0x0C t h.1.0 h.1.1, some_object h.1.0, any_total 0x07 (IsOf manifest_root input) t roots h.2, apart (is_kind 0x0C) (is_kind 0x07) (other_kind 0x0C 0x07 (λ e. omega (arith, e))) (kids t))
 body_objects input t kind (Cell current) h = omega (arith, one_total 0x0B t h.1.0 h.1.1, some_object h.1.0, total_filter (is_kind 0x0B) (kids t))
 body_objects input t kind (Revision id base roots groups) h =
     omega (
       arith,
       one_total 0x1A t h.1.0 h.1.1,
       some_object h.1.0,
-      any_total 0x0A (IsRevisionRoot input) t roots h.2,
-      any_total 0x19 (GroupReference input) t groups h.3,
+      any_total 0x0A (IsOf revision_root input) t roots h.2,
+      any_total 0x19 (IsOf group_reference input) t groups h.3,
       apart_three (is_kind 0x1A) (is_kind 0x0A) (is_kind 0x19) (other_kind 0x1A 0x0A (λ e. omega (arith, e))) (other_kind 0x1A 0x19 (λ e. omega (arith, e))) (other_kind 0x0A 0x19 (λ e. omega (arith, e))) (kids t),
     )
 body_objects input t kind (Group vs) h = group_objects input t vs h.1

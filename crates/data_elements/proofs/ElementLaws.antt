@@ -14,16 +14,20 @@ use Rattle.stream_objects.specs.ObjectFields.{single}
 use Rattle.stream_objects.specs.Gathering.{and_then}
 use Rattle.stream_objects.proofs.Broken.{Judges, all-append, broken_left, broken_right}
 use Rattle.stream_objects.proofs.Children.{single_some, single_none}
-use Rattle.doc_model.specs.ElementObjects.{ElementFields, PackageFields, ManifestMapping, CellMapping, RevisionMapping, SchemaGuid, ManifestRoot, CurrentRevision, RevisionManifest, IsRevisionRoot, GroupReference, BlobContent}
+use Rattle.compact_values.specs.Taking.{take_guid, take_exguid, take_both}
+use Rattle.wire_kinds.specs.Row.{IsOf, row_at}
+use Rattle.doc_model.specs.ElementCodes.{manifest_code, cell_code, revision_code, root_code, revision_root_code}
+use Rattle.doc_model.specs.ElementRows.{manifest_mapping, cell_mapping, revision_mapping, schema_guid, manifest_root, current_revision, revision_manifest, revision_root, group_reference}
+use Rattle.doc_model.specs.ElementObjects.{ElementFields, PackageFields, BlobContent}
 use Rattle.doc_model.specs.Elements.{SaysBody, IsElement, IsPackage}
 use Rattle.doc_model.specs.ElementParts.{Part, element, has_place, parts_behind, element_row, element_parts, package_parts, KindInForm, InOwnForm, part_start}
 use Rattle.doc_model.specs.declared.element.Element.{Element}
 use Rattle.doc_model.specs.declared.element.Body.{Body}
 use Rattle.doc_model.specs.declared.element.Body.TheVariants.{Index, Storage, Cell, Revision, Group, Blob}
-use Rattle.data_elements.specs.Rows.{package_row, root_row, revision_root_row, id_row, schema_row, revision_map_row, cell_map_row, manifest_map_row, head_row, blob_row}
+use Rattle.data_elements.specs.Rows.{package_row, blob_row}
 use Rattle.data_elements.specs.Checking.{check_at, unless_broken, collect, only}
 use Rattle.data_elements.specs.Reading.{index_at, storage_at, cell_at, revision_at, blob_at, body_at, element_of, element_with, element_at, elements_from, package_with, package_at}
-use Rattle.data_elements.proofs.RowLaws.{element_found, element_again, package_found, package_again, root_again, revision_root_again, id_again, schema_again, revision_map_again, cell_map_again, manifest_map_again, head_again, blob_again, ok_manifest_root, ok_revision_root, ok_current, ok_schema, ok_revision_mapping, ok_cell_mapping, ok_manifest_mapping, ok_group, ok_revision, ok_blob}
+use Rattle.data_elements.proofs.RowLaws.{element_found, element_again, package_found, package_again, root_reads, revision_root_reads, id_reads, schema_reads, revision_map_reads, cell_map_reads, manifest_map_reads, head_reads, blob_again, ok_manifest_root, ok_revision_root, ok_current, ok_schema, ok_revision_mapping, ok_cell_mapping, ok_manifest_mapping, ok_group, ok_revision, ok_blob}
 use Rattle.data_elements.proofs.CheckLaws.{placed, collected, again_collect, again_only, only_of, JudgesBody, by_children, not_itself, fine, each_ok, one_ok, either_ok, check_none}
 use Rattle.data_elements.proofs.GroupLaws.{judges_group, again_group}
 
@@ -83,16 +87,16 @@ module _ (input : List ℕ) (fits : IsBytes input) where
   judges_index t id serial has = by_children input fits t id serial 1 has (index_form t) _ (λ own.
       let cs = (out-Tree t).children in
       let h = placed input fits 1 cs own in
-      let m = collected input fits 1 0x11 manifest_map_row (ManifestMapping input) place_11 (λ c e l. let v = l.manifest_mapping e in (v.0, manifest_map_again input fits c v.0 v.1, v.1)) cs h [] in
-      let c = collected input fits 1 0x0E cell_map_row (CellMapping input) place_0E (λ c e l. let v = l.cell_mapping e in (v.0, cell_map_again input fits c v.0 v.1, v.1)) cs h [] in
-      let r = collected input fits 1 0x0D revision_map_row (RevisionMapping input) place_0D (λ c e l. let v = l.revision_mapping e in (v.0, revision_map_again input fits c v.0 v.1, v.1)) cs h [] in
+      let m = collected input fits 1 0x11 (row_at manifest_code.take) (IsOf manifest_mapping input) place_11 (λ c e l. let v = l.manifest_mapping e in (v.0, manifest_map_reads.again input fits c v.0 v.1, v.1)) cs h [] in
+      let c = collected input fits 1 0x0E (row_at cell_code.take) (IsOf cell_mapping input) place_0E (λ c e l. let v = l.cell_mapping e in (v.0, cell_map_reads.again input fits c v.0 v.1, v.1)) cs h [] in
+      let r = collected input fits 1 0x0D (row_at revision_code.take) (IsOf revision_mapping input) place_0D (λ c e l. let v = l.revision_mapping e in (v.0, revision_map_reads.again input fits c v.0 v.1, v.1)) cs h [] in
       (Index m.values c.values r.values, rw (m.read, c.read, r.read) refl, (refl, m.each, c.each, r.each)))
 
   judges_storage : (t : Tree) (id : ExGuid) (serial : Serial) → ElementFields input t id serial 2 → JudgesBody input fits t 2 (storage_at input t)
   unfolding storage_at
   judges_storage t id serial has = go (single (children_of 0x0C t)) refl where
     next : Result Body ℕ
-    next = and_then (only 0x0C schema_row input t) (λ s. and_then (collect 0x07 root_row input t) (λ r. Ok (Storage s r)))
+    next = and_then (only 0x0C (row_at take_guid) input t) (λ s. and_then (collect 0x07 (row_at root_code.take) input t) (λ r. Ok (Storage s r)))
 
     go : (s : Option Tree) → single (children_of 0x0C t) ≡ s → JudgesBody input fits t 2 (if is_some s then unless_broken (check_at input 2 (out-Tree t).children) next else Err (start_of t))
     go None e = not_itself input fits t id serial 2 has (λ f. single_none (children_of 0x0C t) e (f.storage refl).0 (f.storage refl).1)
@@ -100,16 +104,16 @@ module _ (input : List ℕ) (fits : IsBytes input) where
         let one = single_some (children_of 0x0C t) c e in
         let cs = (out-Tree t).children in
         let h = placed input fits 2 cs own in
-        let s = collected input fits 2 0x0C schema_row (SchemaGuid input) place_0C (λ c e l. let v = l.schema e in (v.0, schema_again input fits c v.0 v.1, v.1)) cs h [] in
-        let o = only_of input fits 0x0C schema_row (SchemaGuid input) t c one (schema_again input fits) s.values (subst (λ (l : List Tree). Each (SchemaGuid input) l s.values) one s.each) in
-        let r = collected input fits 2 0x07 root_row (ManifestRoot input) place_07 (λ c e l. let v = l.manifest_root e in (v.0, root_again input fits c v.0 v.1, v.1)) cs h [] in
+        let s = collected input fits 2 0x0C (row_at take_guid) (IsOf schema_guid input) place_0C (λ c e l. let v = l.schema e in (v.0, schema_reads.again input fits c v.0 v.1, v.1)) cs h [] in
+        let o = only_of input fits 0x0C (row_at take_guid) (IsOf schema_guid input) t c one (schema_reads.again input fits) s.values (subst (λ (l : List Tree). Each (IsOf schema_guid input) l s.values) one s.each) in
+        let r = collected input fits 2 0x07 (row_at root_code.take) (IsOf manifest_root input) place_07 (λ c e l. let v = l.manifest_root e in (v.0, root_reads.again input fits c v.0 v.1, v.1)) cs h [] in
         (Storage o.0 r.values, rw (o.2, r.read) refl, (refl, o.1, r.each)))
 
   judges_cell : (t : Tree) (id : ExGuid) (serial : Serial) → ElementFields input t id serial 3 → JudgesBody input fits t 3 (cell_at input t)
   unfolding cell_at
   judges_cell t id serial has = go (single (children_of 0x0B t)) refl where
     next : Result Body ℕ
-    next = and_then (only 0x0B id_row input t) (λ c. Ok (Cell c))
+    next = and_then (only 0x0B (row_at take_exguid) input t) (λ c. Ok (Cell c))
 
     go : (s : Option Tree) → single (children_of 0x0B t) ≡ s → JudgesBody input fits t 3 (if is_some s then unless_broken (check_at input 3 (out-Tree t).children) next else Err (start_of t))
     go None e = not_itself input fits t id serial 3 has (λ f. single_none (children_of 0x0B t) e (f.cell refl).0 (f.cell refl).1)
@@ -117,15 +121,15 @@ module _ (input : List ℕ) (fits : IsBytes input) where
         let one = single_some (children_of 0x0B t) c e in
         let cs = (out-Tree t).children in
         let h = placed input fits 3 cs own in
-        let s = collected input fits 3 0x0B id_row (CurrentRevision input) place_0B (λ c e l. let v = l.current e in (v.0, id_again input fits c v.0 v.1, v.1)) cs h [] in
-        let o = only_of input fits 0x0B id_row (CurrentRevision input) t c one (id_again input fits) s.values (subst (λ (l : List Tree). Each (CurrentRevision input) l s.values) one s.each) in
+        let s = collected input fits 3 0x0B (row_at take_exguid) (IsOf current_revision input) place_0B (λ c e l. let v = l.current e in (v.0, id_reads.again input fits c v.0 v.1, v.1)) cs h [] in
+        let o = only_of input fits 0x0B (row_at take_exguid) (IsOf current_revision input) t c one (id_reads.again input fits) s.values (subst (λ (l : List Tree). Each (IsOf current_revision input) l s.values) one s.each) in
         (Cell o.0, rw o.2 refl, (refl, o.1)))
 
   judges_revision : (t : Tree) (id : ExGuid) (serial : Serial) → ElementFields input t id serial 4 → JudgesBody input fits t 4 (revision_at input t)
   unfolding revision_at
   judges_revision t id serial has = go (single (children_of 0x1A t)) refl where
     next : Result Body ℕ
-    next = and_then (only 0x1A head_row input t) (λ h. and_then (collect 0x0A revision_root_row input t) (λ r. and_then (collect 0x19 id_row input t) (λ g. Ok (Revision h.0 h.1 r g))))
+    next = and_then (only 0x1A (row_at (take_both take_exguid take_exguid)) input t) (λ h. and_then (collect 0x0A (row_at revision_root_code.take) input t) (λ r. and_then (collect 0x19 (row_at take_exguid) input t) (λ g. Ok (Revision h.0 h.1 r g))))
 
     go : (s : Option Tree) → single (children_of 0x1A t) ≡ s → JudgesBody input fits t 4 (if is_some s then unless_broken (check_at input 4 (out-Tree t).children) next else Err (start_of t))
     go None e = not_itself input fits t id serial 4 has (λ f. single_none (children_of 0x1A t) e (f.revision refl).0 (f.revision refl).1)
@@ -133,10 +137,10 @@ module _ (input : List ℕ) (fits : IsBytes input) where
         let one = single_some (children_of 0x1A t) c e in
         let cs = (out-Tree t).children in
         let h = placed input fits 4 cs own in
-        let s = collected input fits 4 0x1A head_row (RevisionManifest input) place_1A (λ c e l. let v = l.revision e in (v.0, head_again input fits c v.0 v.1, v.1)) cs h [] in
-        let o = only_of input fits 0x1A head_row (RevisionManifest input) t c one (head_again input fits) s.values (subst (λ (l : List Tree). Each (RevisionManifest input) l s.values) one s.each) in
-        let r = collected input fits 4 0x0A revision_root_row (IsRevisionRoot input) place_0A (λ c e l. let v = l.revision_root e in (v.0, revision_root_again input fits c v.0 v.1, v.1)) cs h [] in
-        let g = collected input fits 4 0x19 id_row (GroupReference input) place_19 (λ c e l. let v = l.group e in (v.0, id_again input fits c v.0 v.1, v.1)) cs h [] in
+        let s = collected input fits 4 0x1A (row_at (take_both take_exguid take_exguid)) (IsOf revision_manifest input) place_1A (λ c e l. let v = l.revision e in (v.0, head_reads.again input fits c v.0 v.1, v.1)) cs h [] in
+        let o = only_of input fits 0x1A (row_at (take_both take_exguid take_exguid)) (IsOf revision_manifest input) t c one (head_reads.again input fits) s.values (subst (λ (l : List Tree). Each (IsOf revision_manifest input) l s.values) one s.each) in
+        let r = collected input fits 4 0x0A (row_at revision_root_code.take) (IsOf revision_root input) place_0A (λ c e l. let v = l.revision_root e in (v.0, revision_root_reads.again input fits c v.0 v.1, v.1)) cs h [] in
+        let g = collected input fits 4 0x19 (row_at take_exguid) (IsOf group_reference input) place_19 (λ c e l. let v = l.group e in (v.0, id_reads.again input fits c v.0 v.1, v.1)) cs h [] in
         (Revision o.0.0 o.0.1 r.values g.values, rw (o.2, r.read, g.read) refl, (refl, o.1, r.each, g.each)))
 
   judges_blob : (t : Tree) (id : ExGuid) (serial : Serial) → ElementFields input t id serial 10 → JudgesBody input fits t 10 (blob_at input t)
@@ -247,46 +251,46 @@ module _ (input : List ℕ) (fits : IsBytes input) where
   unfolding body_at index_at storage_at cell_at revision_at blob_at
   again_body t kind (Index m c r) s =
       let cs = (out-Tree t).children in
-      let a = each_ok input fits 1 0x11 (ManifestMapping input) (λ c v k h. fine input fits 1 refl c (ok_manifest_mapping input fits c k ∙ ap is_some (manifest_map_again input fits c v h))) cs m s.1 in
-      let b = each_ok input fits 1 0x0E (CellMapping input) (λ c v k h. fine input fits 1 refl c (ok_cell_mapping input fits c k ∙ ap is_some (cell_map_again input fits c v h))) cs c s.2 in
-      let d = each_ok input fits 1 0x0D (RevisionMapping input) (λ c v k h. fine input fits 1 refl c (ok_revision_mapping input fits c k ∙ ap is_some (revision_map_again input fits c v h))) cs r s.3 in
+      let a = each_ok input fits 1 0x11 (IsOf manifest_mapping input) (λ c v k h. fine input fits 1 refl c (ok_manifest_mapping input fits c k ∙ ap is_some (manifest_map_reads.again input fits c v h))) cs m s.1 in
+      let b = each_ok input fits 1 0x0E (IsOf cell_mapping input) (λ c v k h. fine input fits 1 refl c (ok_cell_mapping input fits c k ∙ ap is_some (cell_map_reads.again input fits c v h))) cs c s.2 in
+      let d = each_ok input fits 1 0x0D (IsOf revision_mapping input) (λ c v k h. fine input fits 1 refl c (ok_revision_mapping input fits c k ∙ ap is_some (revision_map_reads.again input fits c v h))) cs r s.3 in
       let none : check_at input 1 cs ≡ None = check_none input fits 1 cs (either_ok input fits 1 (λ c. is_kind 0x11 c || is_kind 0x0E c) (is_kind 0x0D) cs (either_ok input fits 1 (is_kind 0x11) (is_kind 0x0E) cs a b) d) in
       rw (
         s.0,
         none,
-        again_collect input fits manifest_map_row (ManifestMapping input) (manifest_map_again input fits) (children_of 0x11 t) m [] s.1,
-        again_collect input fits cell_map_row (CellMapping input) (cell_map_again input fits) (children_of 0x0E t) c [] s.2,
-        again_collect input fits revision_map_row (RevisionMapping input) (revision_map_again input fits) (children_of 0x0D t) r [] s.3,
+        again_collect input fits (row_at manifest_code.take) (IsOf manifest_mapping input) (manifest_map_reads.again input fits) (children_of 0x11 t) m [] s.1,
+        again_collect input fits (row_at cell_code.take) (IsOf cell_mapping input) (cell_map_reads.again input fits) (children_of 0x0E t) c [] s.2,
+        again_collect input fits (row_at revision_code.take) (IsOf revision_mapping input) (revision_map_reads.again input fits) (children_of 0x0D t) r [] s.3,
       ) refl
   again_body t kind (Storage g r) s =
       let cs = (out-Tree t).children in
-      let a = one_ok input fits 2 0x0C (SchemaGuid input) (λ c v k h. fine input fits 2 refl c (ok_schema input fits c k ∙ ap is_some (schema_again input fits c v h))) t g s.1 in
-      let b = each_ok input fits 2 0x07 (ManifestRoot input) (λ c v k h. fine input fits 2 refl c (ok_manifest_root input fits c k ∙ ap is_some (root_again input fits c v h))) cs r s.2 in
+      let a = one_ok input fits 2 0x0C (IsOf schema_guid input) (λ c v k h. fine input fits 2 refl c (ok_schema input fits c k ∙ ap is_some (schema_reads.again input fits c v h))) t g s.1 in
+      let b = each_ok input fits 2 0x07 (IsOf manifest_root input) (λ c v k h. fine input fits 2 refl c (ok_manifest_root input fits c k ∙ ap is_some (root_reads.again input fits c v h))) cs r s.2 in
       let none : check_at input 2 cs ≡ None = check_none input fits 2 cs (either_ok input fits 2 (is_kind 0x0C) (is_kind 0x07) cs a b) in
       rw (
         s.0,
         none,
-        again_only input fits 0x0C schema_row (SchemaGuid input) (schema_again input fits) t g s.1,
-        again_collect input fits root_row (ManifestRoot input) (root_again input fits) (children_of 0x07 t) r [] s.2,
+        again_only input fits 0x0C (row_at take_guid) (IsOf schema_guid input) (schema_reads.again input fits) t g s.1,
+        again_collect input fits (row_at root_code.take) (IsOf manifest_root input) (root_reads.again input fits) (children_of 0x07 t) r [] s.2,
         ap single s.1.1,
       ) refl
   again_body t kind (Cell i) s =
       let cs = (out-Tree t).children in
-      let a = one_ok input fits 3 0x0B (CurrentRevision input) (λ c v k h. fine input fits 3 refl c (ok_current input fits c k ∙ ap is_some (id_again input fits c v h))) t i s.1 in
+      let a = one_ok input fits 3 0x0B (IsOf current_revision input) (λ c v k h. fine input fits 3 refl c (ok_current input fits c k ∙ ap is_some (id_reads.again input fits c v h))) t i s.1 in
       let none : check_at input 3 cs ≡ None = check_none input fits 3 cs a in
-      rw (s.0, none, again_only input fits 0x0B id_row (CurrentRevision input) (id_again input fits) t i s.1, ap single s.1.1) refl
+      rw (s.0, none, again_only input fits 0x0B (row_at take_exguid) (IsOf current_revision input) (id_reads.again input fits) t i s.1, ap single s.1.1) refl
   again_body t kind (Revision i b r g) s =
       let cs = (out-Tree t).children in
-      let x = one_ok input fits 4 0x1A (RevisionManifest input) (λ c v k h. fine input fits 4 refl c (ok_revision input fits c k ∙ ap is_some (head_again input fits c v h))) t (i, b) s.1 in
-      let y = each_ok input fits 4 0x0A (IsRevisionRoot input) (λ c v k h. fine input fits 4 refl c (ok_revision_root input fits c k ∙ ap is_some (revision_root_again input fits c v h))) cs r s.2 in
-      let z = each_ok input fits 4 0x19 (GroupReference input) (λ c v k h. fine input fits 4 refl c (ok_group input fits c k ∙ ap is_some (id_again input fits c v h))) cs g s.3 in
+      let x = one_ok input fits 4 0x1A (IsOf revision_manifest input) (λ c v k h. fine input fits 4 refl c (ok_revision input fits c k ∙ ap is_some (head_reads.again input fits c v h))) t (i, b) s.1 in
+      let y = each_ok input fits 4 0x0A (IsOf revision_root input) (λ c v k h. fine input fits 4 refl c (ok_revision_root input fits c k ∙ ap is_some (revision_root_reads.again input fits c v h))) cs r s.2 in
+      let z = each_ok input fits 4 0x19 (IsOf group_reference input) (λ c v k h. fine input fits 4 refl c (ok_group input fits c k ∙ ap is_some (id_reads.again input fits c v h))) cs g s.3 in
       let none : check_at input 4 cs ≡ None = check_none input fits 4 cs (either_ok input fits 4 (λ c. is_kind 0x1A c || is_kind 0x0A c) (is_kind 0x19) cs (either_ok input fits 4 (is_kind 0x1A) (is_kind 0x0A) cs x y) z) in
       rw (
         s.0,
         none,
-        again_only input fits 0x1A head_row (RevisionManifest input) (head_again input fits) t (i, b) s.1,
-        again_collect input fits revision_root_row (IsRevisionRoot input) (revision_root_again input fits) (children_of 0x0A t) r [] s.2,
-        again_collect input fits id_row (GroupReference input) (id_again input fits) (children_of 0x19 t) g [] s.3,
+        again_only input fits 0x1A (row_at (take_both take_exguid take_exguid)) (IsOf revision_manifest input) (head_reads.again input fits) t (i, b) s.1,
+        again_collect input fits (row_at revision_root_code.take) (IsOf revision_root input) (revision_root_reads.again input fits) (children_of 0x0A t) r [] s.2,
+        again_collect input fits (row_at take_exguid) (IsOf group_reference input) (id_reads.again input fits) (children_of 0x19 t) g [] s.3,
         ap single s.1.1,
       ) refl
   again_body t kind (Group objects) s = rw s.0 (again_group input fits t objects s.1)

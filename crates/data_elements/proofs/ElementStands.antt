@@ -14,12 +14,12 @@ use Rattle.stream_objects.specs.Written.{started}
 use Rattle.stream_objects.specs.declared.tree.Tree.{Tree}
 use Rattle.stream_objects.specs.declared.tree.Tree.TheViews.{out-Tree}
 use Rattle.stream_objects.proofs.Standing.{At, at_front, at_back, inside_at, Whole, all_stand, branch, each_all, filter_true, objects-one, ones}
-use Rattle.doc_model.specs.ElementObjects.{IsNothing, NoFields, ManifestMapping, CellMapping, RevisionMapping, SchemaGuid, ManifestRoot, RevisionManifest, IsRevisionRoot, GroupReference}
+use Rattle.doc_model.specs.ElementObjects.{IsNothing, NoFields}
 use Rattle.doc_model.specs.Elements.{SaysBody, IsElementWith}
 use Rattle.doc_model.specs.Groups.{SaysContent, EachPair}
-use Rattle.doc_model.specs.FittingElements.{FitsManifestMap, FitsCellMap, FitsRevisionMap, FitsRoot, FitsRevisionRoot, FitsObject, FitsBody, FitsElement}
+use Rattle.doc_model.specs.FittingElements.{FitsObject, FitsBody, FitsElement}
 use Rattle.doc_model.specs.Weights.{objects_in, objects_written}
-use Rattle.doc_model.specs.WrittenElements.{manifest_map_bytes, cell_map_bytes, revision_map_bytes, schema_bytes, root_bytes, current_bytes, revision_bytes, revision_root_bytes, group_reference_bytes, declaration_kind, declaration_bytes, data_kind, data_bytes, declarations_bytes, datas_bytes, blob_bytes, kind_number, body_bytes, element_bytes}
+use Rattle.doc_model.specs.WrittenElements.{declaration_kind, declaration_bytes, data_kind, data_bytes, declarations_bytes, datas_bytes, blob_bytes, kind_number, body_bytes, element_bytes}
 use Rattle.doc_model.specs.declared.element.ManifestMap.{ManifestMap}
 use Rattle.doc_model.specs.declared.element.CellMap.{CellMap}
 use Rattle.doc_model.specs.declared.element.RevisionMap.{RevisionMap}
@@ -33,7 +33,10 @@ use Rattle.doc_model.specs.declared.element.Body.TheVariants.{Index, Storage, Ce
 use Rattle.doc_model.specs.declared.element.Element.{Element}
 use Rattle.data_elements.proofs.Spelled.{id_spelled, serial_spelled, compact_spelled, id_short, serial_short, compact_short, pair, pair_as, length_three}
 use Rattle.data_elements.proofs.Runs.{Of, single, two, three, one_of}
-use Rattle.data_elements.proofs.ObjectsStand.{SaysDeclaration, SaysData, manifest_map_stands, cell_map_stands, revision_map_stands, schema_stands, root_stands, current_stands, revision_stands, revision_root_stands, group_reference_stands, blob_stands, declaration_stands, data_stands}
+use Rattle.data_elements.proofs.ObjectsStand.{SaysDeclaration, SaysData, stands, blob_stands, declaration_stands, data_stands}
+use Rattle.wire_kinds.specs.Row.{IsOf, row_bytes}
+use Rattle.doc_model.specs.ElementRows.{manifest_mapping, cell_mapping, revision_mapping, schema_guid, manifest_root, current_revision, revision_manifest, revision_root, group_reference}
+use Rattle.doc_model.proofs.ShortRows.{short_manifest_mapping, short_cell_mapping, short_revision_mapping, short_schema_guid, short_manifest_root, short_current_revision, short_revision_manifest, short_revision_root, short_group_reference}
 
 -- ---- pairs of declarations and data
 
@@ -72,14 +75,14 @@ module _ (input : List ℕ) (n : ℕ) where
   index_at : (ms : List ManifestMap) (cs : List CellMap) (rs : List RevisionMap) (p : ℕ) → FitsBody (Index ms cs rs) → At input p (body_bytes (Index ms cs rs)) → BodyAt (Index ms cs rs) p (p + length (body_bytes (Index ms cs rs)))
   unfolding body_bytes
   index_at ms cs rs p f a =
-      let x = flat_map manifest_map_bytes ms in
-      let y = flat_map cell_map_bytes cs in
-      let z = flat_map revision_map_bytes rs in
+      let x = flat_map (row_bytes manifest_mapping) ms in
+      let y = flat_map (row_bytes cell_mapping) cs in
+      let z = flat_map (row_bytes revision_mapping) rs in
       let xy = at_front input p (x ++ y) z a in
-      let ra = all_stand input (suc (suc n)) (Of 0x11 (ManifestMapping input)) FitsManifestMap manifest_map_bytes (λ m. 1) (manifest_map_stands input (suc n)) ms p f.0 (at_front input p x y xy) in
-      let rb = all_stand input (suc (suc n)) (Of 0x0E (CellMapping input)) FitsCellMap cell_map_bytes (λ m. 1) (cell_map_stands input (suc n)) cs (p + length x) f.1 (at_back input p x y xy) in
-      let rc = all_stand input (suc (suc n)) (Of 0x0D (RevisionMapping input)) FitsRevisionMap revision_map_bytes (λ m. 1) (revision_map_stands input (suc n)) rs (p + length (x ++ y)) f.2 (at_back input p (x ++ y) z a) in
-      let all = three input (suc (suc n)) 0x11 0x0E 0x0D (ManifestMapping input) (CellMapping input) (RevisionMapping input) ms cs rs (sum_by (λ m. 1) ms) (sum_by (λ m. 1) cs) (sum_by (λ m. 1) rs) p x y z
+      let ra = all_stand input (suc (suc n)) (Of 0x11 (IsOf manifest_mapping input)) manifest_mapping.fields.Fits (row_bytes manifest_mapping) (λ m. 1) (stands input (suc n) manifest_mapping (omega arith) (λ v. omega (arith, short_manifest_mapping v))) ms p f.0 (at_front input p x y xy) in
+      let rb = all_stand input (suc (suc n)) (Of 0x0E (IsOf cell_mapping input)) cell_mapping.fields.Fits (row_bytes cell_mapping) (λ m. 1) (stands input (suc n) cell_mapping (omega arith) (λ v. omega (arith, short_cell_mapping v))) cs (p + length x) f.1 (at_back input p x y xy) in
+      let rc = all_stand input (suc (suc n)) (Of 0x0D (IsOf revision_mapping input)) revision_mapping.fields.Fits (row_bytes revision_mapping) (λ m. 1) (stands input (suc n) revision_mapping (omega arith) (λ v. omega (arith, short_revision_mapping v))) rs (p + length (x ++ y)) f.2 (at_back input p (x ++ y) z a) in
+      let all = three input (suc (suc n)) 0x11 0x0E 0x0D (IsOf manifest_mapping input) (IsOf cell_mapping input) (IsOf revision_mapping input) ms cs rs (sum_by (λ m. 1) ms) (sum_by (λ m. 1) cs) (sum_by (λ m. 1) rs) p x y z
       (λ e. absurd (omega arith)) (λ e. absurd (omega arith)) (λ e. absurd (omega arith)) ra rb rc in
       record {
         trees = all.trees;
@@ -91,23 +94,23 @@ module _ (input : List ℕ) (n : ℕ) where
   storage_at : (schema : Guid) (rs : List Root) (p : ℕ) → FitsBody (Storage schema rs) → At input p (body_bytes (Storage schema rs)) → BodyAt (Storage schema rs) p (p + length (body_bytes (Storage schema rs)))
   unfolding body_bytes
   storage_at schema rs p f a =
-      let x = schema_bytes schema in
-      let y = flat_map root_bytes rs in
-      let ra = single input (suc (suc n)) (Of 0x0C (SchemaGuid input)) schema 1 p (p + length x) (schema_stands input (suc n) schema p f.0 (at_front input p x y a)) in
-      let rb = all_stand input (suc (suc n)) (Of 0x07 (ManifestRoot input)) FitsRoot root_bytes (λ m. 1) (root_stands input (suc n)) rs (p + length x) f.1 (at_back input p x y a) in
-      let all = two input (suc (suc n)) 0x0C 0x07 (SchemaGuid input) (ManifestRoot input) (schema ∷ []) rs 1 (sum_by (λ m. 1) rs) p x y (λ e. absurd (omega arith)) ra rb in
+      let x = row_bytes schema_guid schema in
+      let y = flat_map (row_bytes manifest_root) rs in
+      let ra = single input (suc (suc n)) (Of 0x0C (IsOf schema_guid input)) schema 1 p (p + length x) (stands input (suc n) schema_guid (omega arith) (λ v. omega (arith, short_schema_guid v)) schema p f.0 (at_front input p x y a)) in
+      let rb = all_stand input (suc (suc n)) (Of 0x07 (IsOf manifest_root input)) manifest_root.fields.Fits (row_bytes manifest_root) (λ m. 1) (stands input (suc n) manifest_root (omega arith) (λ v. omega (arith, short_manifest_root v))) rs (p + length x) f.1 (at_back input p x y a) in
+      let all = two input (suc (suc n)) 0x0C 0x07 (IsOf schema_guid input) (IsOf manifest_root input) (schema ∷ []) rs 1 (sum_by (λ m. 1) rs) p x y (λ e. absurd (omega arith)) ra rb in
       record {
         trees = all.trees;
         standing = all.standing;
-        says = λ t e. (refl, one_of 0x0C (SchemaGuid input) schema t (all.first t e), all.second t e);
+        says = λ t e. (refl, one_of 0x0C (IsOf schema_guid input) schema t (all.first t e), all.second t e);
         count_is = omega (arith, all.count_is, ones rs);
       }
 
   cell_at : (current : ExGuid) (p : ℕ) → FitsBody (Cell current) → At input p (body_bytes (Cell current)) → BodyAt (Cell current) p (p + length (body_bytes (Cell current)))
   unfolding body_bytes
   cell_at current p f a =
-      let x = current_bytes current in
-      let w = current_stands input (suc n) current p f a in
+      let x = row_bytes current_revision current in
+      let w = stands input (suc n) current_revision (omega arith) (λ v. omega (arith, short_current_revision v)) current p f a in
       record {
         trees = w.tree ∷ [];
         standing = (p + length x, w.object, refl);
@@ -119,19 +122,19 @@ module _ (input : List ℕ) (n : ℕ) where
       → BodyAt (Revision id base rs gs) p (p + length (body_bytes (Revision id base rs gs)))
   unfolding body_bytes
   revision_at id base rs gs p f a =
-      let x = revision_bytes id base in
-      let y = flat_map revision_root_bytes rs in
-      let z = flat_map group_reference_bytes gs in
+      let x = row_bytes revision_manifest (id, base) in
+      let y = flat_map (row_bytes revision_root) rs in
+      let z = flat_map (row_bytes group_reference) gs in
       let xy = at_front input p (x ++ y) z a in
-      let ra = single input (suc (suc n)) (Of 0x1A (RevisionManifest input)) (id, base) 1 p (p + length x) (revision_stands input (suc n) id base p f.0 f.1 (at_front input p x y xy)) in
-      let rb = all_stand input (suc (suc n)) (Of 0x0A (IsRevisionRoot input)) FitsRevisionRoot revision_root_bytes (λ m. 1) (revision_root_stands input (suc n)) rs (p + length x) f.2 (at_back input p x y xy) in
-      let rc = all_stand input (suc (suc n)) (Of 0x19 (GroupReference input)) FitsExGuid group_reference_bytes (λ m. 1) (group_reference_stands input (suc n)) gs (p + length (x ++ y)) f.3 (at_back input p (x ++ y) z a) in
-      let all = three input (suc (suc n)) 0x1A 0x0A 0x19 (RevisionManifest input) (IsRevisionRoot input) (GroupReference input) ((id, base) ∷ []) rs gs 1 (sum_by (λ m. 1) rs) (sum_by (λ m. 1) gs) p x y z
+      let ra = single input (suc (suc n)) (Of 0x1A (IsOf revision_manifest input)) (id, base) 1 p (p + length x) (stands input (suc n) revision_manifest (omega arith) (λ v. omega (arith, short_revision_manifest v)) (id, base) p (f.0, f.1) (at_front input p x y xy)) in
+      let rb = all_stand input (suc (suc n)) (Of 0x0A (IsOf revision_root input)) revision_root.fields.Fits (row_bytes revision_root) (λ m. 1) (stands input (suc n) revision_root (omega arith) (λ v. omega (arith, short_revision_root v))) rs (p + length x) f.2 (at_back input p x y xy) in
+      let rc = all_stand input (suc (suc n)) (Of 0x19 (IsOf group_reference input)) FitsExGuid (row_bytes group_reference) (λ m. 1) (stands input (suc n) group_reference (omega arith) (λ v. omega (arith, short_group_reference v))) gs (p + length (x ++ y)) f.3 (at_back input p (x ++ y) z a) in
+      let all = three input (suc (suc n)) 0x1A 0x0A 0x19 (IsOf revision_manifest input) (IsOf revision_root input) (IsOf group_reference input) ((id, base) ∷ []) rs gs 1 (sum_by (λ m. 1) rs) (sum_by (λ m. 1) gs) p x y z
       (λ e. absurd (omega arith)) (λ e. absurd (omega arith)) (λ e. absurd (omega arith)) ra rb rc in
       record {
         trees = all.trees;
         standing = all.standing;
-        says = λ t e. (refl, one_of 0x1A (RevisionManifest input) (id, base) t (all.first t e), all.second t e, all.third t e);
+        says = λ t e. (refl, one_of 0x1A (IsOf revision_manifest input) (id, base) t (all.first t e), all.second t e, all.third t e);
         count_is = omega (arith, all.count_is, ones rs, ones gs);
       }
 

@@ -1,5 +1,5 @@
 -- The written objects of elements stand as objects in their forms.
-use Rattle.std.proofs.Common.{◌≡◌, ℕ, suc, ◌+◌, ◌^◌, ◌<◌, inl, inr, false, List, ◌++◌, length, refl, ap, ◌∙◌, append_assoc, arith}
+use Rattle.std.proofs.Common.{◌≡◌, ℕ, suc, ◌+◌, ◌^◌, ◌<◌, ◌≤◌, inl, inr, false, List, ◌++◌, length, refl, ap, ◌∙◌, append_assoc, arith}
 use Rattle.std.proofs.lemmas.List.{length-append, append-nil}
 use Rattle.compact_values.specs.Compact.{compact, SpellsCompact}
 use Rattle.compact_values.specs.Sequences.{◌▹◌}
@@ -11,19 +11,16 @@ use Rattle.stream_objects.specs.Objects.{HasFields, kind_of}
 use Rattle.stream_objects.specs.Written.{simple_object}
 use Rattle.stream_objects.specs.declared.tree.Tree.{Tree}
 use Rattle.stream_objects.proofs.Standing.{At, Whole, leaf, whole_map}
-use Rattle.doc_model.specs.ElementObjects.{ManifestMapping, CellMapping, RevisionMapping, SchemaGuid, ManifestRoot, CurrentRevision, RevisionManifest, IsRevisionRoot, GroupReference, ObjectDeclaration, BlobDeclaration, ObjectData, BlobReference, BlobContent}
+use Rattle.doc_model.specs.ElementObjects.{ObjectDeclaration, BlobDeclaration, ObjectData, BlobReference, BlobContent}
 use Rattle.doc_model.specs.Knowledges.{RangeFields}
-use Rattle.doc_model.specs.FittingElements.{FitsManifestMap, FitsCellMap, FitsRevisionMap, FitsRoot, FitsRevisionRoot, FitsContent, FitsObject, FitsRange}
-use Rattle.doc_model.specs.WrittenElements.{manifest_map_bytes, cell_map_bytes, revision_map_bytes, schema_bytes, root_bytes, current_bytes, revision_bytes, revision_root_bytes, group_reference_bytes, size_if_any, declaration_kind, declaration_fields, declaration_bytes, data_kind, data_fields, data_bytes, blob_bytes, range_bytes}
-use Rattle.doc_model.specs.declared.element.ManifestMap.{ManifestMap}
-use Rattle.doc_model.specs.declared.element.CellMap.{CellMap}
-use Rattle.doc_model.specs.declared.element.RevisionMap.{RevisionMap}
-use Rattle.doc_model.specs.declared.element.Root.{Root}
-use Rattle.doc_model.specs.declared.element.RevisionRoot.{RevisionRoot}
+use Rattle.doc_model.specs.FittingElements.{FitsContent, FitsObject, FitsRange}
+use Rattle.doc_model.specs.WrittenElements.{size_if_any, declaration_kind, declaration_fields, declaration_bytes, data_kind, data_fields, data_bytes, blob_bytes, range_bytes}
 use Rattle.doc_model.specs.declared.element.Object.{Object}
 use Rattle.doc_model.specs.declared.element.Content.{Content}
 use Rattle.doc_model.specs.declared.element.Content.TheVariants.{Inline, Apart}
 use Rattle.doc_model.specs.declared.knowledge.Range.{Range}
+use Rattle.wire_kinds.specs.Row.{Row, IsOf, row_bytes}
+use Rattle.wire_kinds.specs.RowLaws.{row_stands}
 use Rattle.data_elements.proofs.Spelled.{id_spelled, serial_spelled, cell_spelled, guid_spelled, compact_spelled, id_short, serial_short, cell_short, compact_short, size_short, size_cases, pair, pair_as, assoc_five, assoc_six, length_three, length_five, length_six}
 
 module _ (input : List ℕ) (n : ℕ) where
@@ -31,71 +28,12 @@ module _ (input : List ℕ) (n : ℕ) where
   abbrev pub LeafAt : ℕ → (Tree → Type 0) → List ℕ → ℕ → Type 0
   LeafAt kind Is bytes p = Whole input (suc n) (λ t. (kind_of t ≡ kind) × Is t) 1 p (p + length bytes)
 
-  -- ---- storage index
+  -- ---- regular objects
 
-  pub manifest_map_stands : (m : ManifestMap) (p : ℕ) → FitsManifestMap m → At input p (manifest_map_bytes m) → LeafAt 0x11 (λ t. ManifestMapping input t m) (manifest_map_bytes m) p
-  unfolding manifest_map_bytes
-  manifest_map_stands m p f a =
-      leaf input n p 0x11 (SpellsExGuid ▹ SpellsSerial) (m.target, m.serial) (exguid m.target ++ serial m.serial) (omega arith) (omega (arith, length-append (exguid m.target) (serial m.serial), id_short m.target, serial_short m.serial))
-      (pair SpellsExGuid SpellsSerial m.target m.serial (exguid m.target) (serial m.serial) (id_spelled m.target f.0) (serial_spelled m.serial f.1)) a
-
-  pub cell_map_stands : (m : CellMap) (p : ℕ) → FitsCellMap m → At input p (cell_map_bytes m) → LeafAt 0x0E (λ t. CellMapping input t m) (cell_map_bytes m) p
-  unfolding cell_map_bytes
-  cell_map_stands m p f a =
-      let x = cell_id m.cell in
-      let y = exguid m.target in
-      let z = serial m.serial in
-      leaf input n p 0x0E (SpellsCellId ▹ SpellsExGuid ▹ SpellsSerial) (m.cell, (m.target, m.serial)) (x ++ y ++ z) (omega arith) (omega (arith, length_three x y z, cell_short m.cell, id_short m.target, serial_short m.serial))
-      (
-      pair_as SpellsCellId (SpellsExGuid ▹ SpellsSerial) m.cell (m.target, m.serial) x (y ++ z) (x ++ y ++ z) (append_assoc x y z) (cell_spelled m.cell f.0)
-      (pair SpellsExGuid SpellsSerial m.target m.serial y z (id_spelled m.target f.1) (serial_spelled m.serial f.2))
-      )
-      a
-
-  pub revision_map_stands : (m : RevisionMap) (p : ℕ) → FitsRevisionMap m → At input p (revision_map_bytes m) → LeafAt 0x0D (λ t. RevisionMapping input t m) (revision_map_bytes m) p
-  unfolding revision_map_bytes
-  revision_map_stands m p f a =
-      let x = exguid m.revision in
-      let y = exguid m.target in
-      let z = serial m.serial in
-      leaf input n p 0x0D (SpellsExGuid ▹ SpellsExGuid ▹ SpellsSerial) (m.revision, (m.target, m.serial)) (x ++ y ++ z) (omega arith) (omega (arith, length_three x y z, id_short m.revision, id_short m.target, serial_short m.serial))
-      (
-      pair_as SpellsExGuid (SpellsExGuid ▹ SpellsSerial) m.revision (m.target, m.serial) x (y ++ z) (x ++ y ++ z) (append_assoc x y z) (id_spelled m.revision f.0)
-      (pair SpellsExGuid SpellsSerial m.target m.serial y z (id_spelled m.target f.1) (serial_spelled m.serial f.2))
-      )
-      a
-
-  -- ---- manifests
-
-  pub schema_stands : (g : Guid) (p : ℕ) → FitsGuid g → At input p (schema_bytes g) → LeafAt 0x0C (λ t. SchemaGuid input t g) (schema_bytes g) p
-  unfolding schema_bytes
-  schema_stands g p f a = leaf input n p 0x0C SpellsGuid g (guid_spelling g) (omega arith) (omega arith) (guid_spelled g f) a
-
-  pub root_stands : (r : Root) (p : ℕ) → FitsRoot r → At input p (root_bytes r) → LeafAt 0x07 (λ t. ManifestRoot input t r) (root_bytes r) p
-  unfolding root_bytes
-  root_stands r p f a =
-      leaf input n p 0x07 (SpellsExGuid ▹ SpellsCellId) (r.root, r.cell) (exguid r.root ++ cell_id r.cell) (omega arith) (omega (arith, length-append (exguid r.root) (cell_id r.cell), id_short r.root, cell_short r.cell))
-      (pair SpellsExGuid SpellsCellId r.root r.cell (exguid r.root) (cell_id r.cell) (id_spelled r.root f.0) (cell_spelled r.cell f.1)) a
-
-  pub current_stands : (id : ExGuid) (p : ℕ) → FitsExGuid id → At input p (current_bytes id) → LeafAt 0x0B (λ t. CurrentRevision input t id) (current_bytes id) p
-  unfolding current_bytes
-  current_stands id p f a = leaf input n p 0x0B SpellsExGuid id (exguid id) (omega arith) (omega (arith, id_short id)) (id_spelled id f) a
-
-  pub revision_stands : (id base : ExGuid) (p : ℕ) → FitsExGuid id → FitsExGuid base → At input p (revision_bytes id base) → LeafAt 0x1A (λ t. RevisionManifest input t (id, base)) (revision_bytes id base) p
-  unfolding revision_bytes
-  revision_stands id base p f g a =
-      leaf input n p 0x1A (SpellsExGuid ▹ SpellsExGuid) (id, base) (exguid id ++ exguid base) (omega arith) (omega (arith, length-append (exguid id) (exguid base), id_short id, id_short base))
-      (pair SpellsExGuid SpellsExGuid id base (exguid id) (exguid base) (id_spelled id f) (id_spelled base g)) a
-
-  pub revision_root_stands : (r : RevisionRoot) (p : ℕ) → FitsRevisionRoot r → At input p (revision_root_bytes r) → LeafAt 0x0A (λ t. IsRevisionRoot input t r) (revision_root_bytes r) p
-  unfolding revision_root_bytes
-  revision_root_stands r p f a =
-      leaf input n p 0x0A (SpellsExGuid ▹ SpellsExGuid) (r.root, r.object) (exguid r.root ++ exguid r.object) (omega arith) (omega (arith, length-append (exguid r.root) (exguid r.object), id_short r.root, id_short r.object))
-      (pair SpellsExGuid SpellsExGuid r.root r.object (exguid r.root) (exguid r.object) (id_spelled r.root f.0) (id_spelled r.object f.1)) a
-
-  pub group_reference_stands : (id : ExGuid) (p : ℕ) → FitsExGuid id → At input p (group_reference_bytes id) → LeafAt 0x19 (λ t. GroupReference input t id) (group_reference_bytes id) p
-  unfolding group_reference_bytes
-  group_reference_stands id p f a = leaf input n p 0x19 SpellsExGuid id (exguid id) (omega arith) (omega (arith, id_short id)) (id_spelled id f) a
+  -- one whose fields are short
+  pub stands : {V : Type 0} (row : Row V) → row.number ≤ 63 → ((v : V) → length (row.fields.bytes v) ≤ 88) → (v : V) (p : ℕ) → row.fields.Fits v → At input p (row_bytes row v)
+      → LeafAt row.number (λ t. IsOf row input t v) (row_bytes row v) p
+  stands row small short v p f a = row_stands row (omega (arith, small)) input n p v f (omega (arith, short v)) a
 
   -- ---- blob and knowledge
 

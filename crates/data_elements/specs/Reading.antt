@@ -2,6 +2,9 @@
 use Rattle.std.specs.Prelude.{ℕ, List, [], ◌∷◌, ◌++◌, ◌==◌, is_some, Option, Some, None, Result, Ok, Err, if◌then◌else◌}
 use Rattle.compact_values.specs.declared.ids.ExGuid.{ExGuid}
 use Rattle.compact_values.specs.declared.ids.Serial.{Serial}
+use Rattle.compact_values.specs.Taking.{take_guid, take_exguid, take_both}
+use Rattle.wire_kinds.specs.Row.{row_at}
+use Rattle.doc_model.specs.ElementCodes.{manifest_code, cell_code, revision_code, root_code, revision_root_code}
 use Rattle.stream_objects.specs.declared.tree.Tree.{Tree}
 use Rattle.stream_objects.specs.declared.tree.Tree.TheViews.{out-Tree}
 use Rattle.stream_objects.specs.Objects.{start_of, children_of}
@@ -11,33 +14,33 @@ use Rattle.doc_model.specs.ElementParts.{element_row}
 use Rattle.doc_model.specs.declared.element.Element.{Element}
 use Rattle.doc_model.specs.declared.element.Body.{Body}
 use Rattle.doc_model.specs.declared.element.Body.TheVariants.{Index, Storage, Cell, Revision, Blob}
-use Rattle.data_elements.specs.Rows.{package_row, root_row, revision_root_row, id_row, schema_row, revision_map_row, cell_map_row, manifest_map_row, head_row, blob_row}
+use Rattle.data_elements.specs.Rows.{package_row, blob_row}
 use Rattle.data_elements.specs.Checking.{check_at, unless_broken, collect, only}
 use Rattle.data_elements.specs.GroupReading.{group_at}
 
 unfoldable pub index_at : List ℕ → Tree → Result Body ℕ
 index_at input t =
     unless_broken (check_at input 1 (out-Tree t).children)
-    (and_then (collect 0x11 manifest_map_row input t) (λ m. and_then (collect 0x0E cell_map_row input t) (λ c. and_then (collect 0x0D revision_map_row input t) (λ r. Ok (Index m c r)))))
+    (and_then (collect 0x11 (row_at manifest_code.take) input t) (λ m. and_then (collect 0x0E (row_at cell_code.take) input t) (λ c. and_then (collect 0x0D (row_at revision_code.take) input t) (λ r. Ok (Index m c r)))))
 
 unfoldable pub storage_at : List ℕ → Tree → Result Body ℕ
 storage_at input t =
     if is_some (single (children_of 0x0C t)) then
     unless_broken (check_at input 2 (out-Tree t).children)
-    (and_then (only 0x0C schema_row input t) (λ s. and_then (collect 0x07 root_row input t) (λ r. Ok (Storage s r))))
+    (and_then (only 0x0C (row_at take_guid) input t) (λ s. and_then (collect 0x07 (row_at root_code.take) input t) (λ r. Ok (Storage s r))))
     else Err (start_of t)
 
 unfoldable pub cell_at : List ℕ → Tree → Result Body ℕ
 cell_at input t =
     if is_some (single (children_of 0x0B t)) then
-    unless_broken (check_at input 3 (out-Tree t).children) (and_then (only 0x0B id_row input t) (λ c. Ok (Cell c)))
+    unless_broken (check_at input 3 (out-Tree t).children) (and_then (only 0x0B (row_at take_exguid) input t) (λ c. Ok (Cell c)))
     else Err (start_of t)
 
 unfoldable pub revision_at : List ℕ → Tree → Result Body ℕ
 revision_at input t =
     if is_some (single (children_of 0x1A t)) then
     unless_broken (check_at input 4 (out-Tree t).children)
-    (and_then (only 0x1A head_row input t) (λ h. and_then (collect 0x0A revision_root_row input t) (λ r. and_then (collect 0x19 id_row input t) (λ g. Ok (Revision h.0 h.1 r g)))))
+    (and_then (only 0x1A (row_at (take_both take_exguid take_exguid)) input t) (λ h. and_then (collect 0x0A (row_at revision_root_code.take) input t) (λ r. and_then (collect 0x19 (row_at take_exguid) input t) (λ g. Ok (Revision h.0 h.1 r g)))))
     else Err (start_of t)
 
 unfoldable pub blob_at : List ℕ → Tree → Result Body ℕ

@@ -5,14 +5,11 @@ use Rattle.compact_values.specs.declared.ids.ExGuid.{ExGuid}
 use Rattle.compact_values.specs.declared.ids.Serial.{Serial}
 use Rattle.compact_values.specs.declared.ids.CellId.{CellId}
 use Rattle.compact_values.specs.Taking.{take_compact, take_byte, take_guid, take_exguid, take_serial, take_cell_id, take_item, take_ids, take_cells, take_both, if_all}
+use Rattle.wire_kinds.specs.Row.{row_at}
+use Rattle.doc_model.specs.ElementCodes.{manifest_code, cell_code, revision_code, root_code, revision_root_code}
 use Rattle.stream_objects.specs.declared.tree.Tree.{Tree}
 use Rattle.stream_objects.specs.Objects.{is_kind}
 use Rattle.stream_objects.specs.ObjectFields.{simple_fields, compound_fields}
-use Rattle.doc_model.specs.declared.element.ManifestMap.{ManifestMap}
-use Rattle.doc_model.specs.declared.element.CellMap.{CellMap}
-use Rattle.doc_model.specs.declared.element.RevisionMap.{RevisionMap}
-use Rattle.doc_model.specs.declared.element.Root.{Root}
-use Rattle.doc_model.specs.declared.element.RevisionRoot.{RevisionRoot}
 
 -- the value that the fields of a simple object are
 abbrev pub simple_row : {V : Type 0} → (List ℕ → Option (V × List ℕ)) → List ℕ → Tree → Option V
@@ -39,45 +36,6 @@ package_row = compound_row take_byte
 
 -- ---- the children of elements
 
-abbrev pub root_of : ExGuid × CellId → Root
-root_of p = record { root = p.0; cell = p.1 }
-
-unfoldable pub root_row : List ℕ → Tree → Option Root
-root_row input t = option_map root_of (simple_row (take_both take_exguid take_cell_id) input t)
-
-abbrev pub revision_root_of : ExGuid × ExGuid → RevisionRoot
-revision_root_of p = record { root = p.0; object = p.1 }
-
-unfoldable pub revision_root_row : List ℕ → Tree → Option RevisionRoot
-revision_root_row input t = option_map revision_root_of (simple_row (take_both take_exguid take_exguid) input t)
-
-unfoldable pub id_row : List ℕ → Tree → Option ExGuid
-id_row input t = simple_row take_exguid input t
-
-unfoldable pub schema_row : List ℕ → Tree → Option Guid
-schema_row input t = simple_row take_guid input t
-
-abbrev pub revision_map_of : ExGuid × (ExGuid × Serial) → RevisionMap
-revision_map_of p = record { revision = p.0; target = p.1.0; serial = p.1.1 }
-
-unfoldable pub revision_map_row : List ℕ → Tree → Option RevisionMap
-revision_map_row input t = option_map revision_map_of (simple_row (take_both take_exguid (take_both take_exguid take_serial)) input t)
-
-abbrev pub cell_map_of : CellId × (ExGuid × Serial) → CellMap
-cell_map_of p = record { cell = p.0; target = p.1.0; serial = p.1.1 }
-
-unfoldable pub cell_map_row : List ℕ → Tree → Option CellMap
-cell_map_row input t = option_map cell_map_of (simple_row (take_both take_cell_id (take_both take_exguid take_serial)) input t)
-
-abbrev pub manifest_map_of : ExGuid × Serial → ManifestMap
-manifest_map_of p = record { target = p.0; serial = p.1 }
-
-unfoldable pub manifest_map_row : List ℕ → Tree → Option ManifestMap
-manifest_map_row input t = option_map manifest_map_of (simple_row (take_both take_exguid take_serial) input t)
-
-unfoldable pub head_row : List ℕ → Tree → Option (ExGuid × ExGuid)
-head_row input t = simple_row (take_both take_exguid take_exguid) input t
-
 unfoldable pub blob_row : List ℕ → Tree → Option (List ℕ)
 blob_row input t = simple_row take_item input t
 
@@ -85,15 +43,15 @@ blob_row input t = simple_row take_item input t
 unfoldable pub child_ok : List ℕ → Tree → Bool
 child_ok input t =
     if is_kind 0x02 t then is_some (blob_row input t)
-    else if is_kind 0x07 t then is_some (root_row input t)
-    else if is_kind 0x0A t then is_some (revision_root_row input t)
-    else if is_kind 0x0B t then is_some (id_row input t)
-    else if is_kind 0x0C t then is_some (schema_row input t)
-    else if is_kind 0x0D t then is_some (revision_map_row input t)
-    else if is_kind 0x0E t then is_some (cell_map_row input t)
-    else if is_kind 0x11 t then is_some (manifest_map_row input t)
-    else if is_kind 0x19 t then is_some (id_row input t)
-    else if is_kind 0x1A t then is_some (head_row input t)
+    else if is_kind 0x07 t then is_some (row_at root_code.take input t)
+    else if is_kind 0x0A t then is_some (row_at revision_root_code.take input t)
+    else if is_kind 0x0B t then is_some (row_at take_exguid input t)
+    else if is_kind 0x0C t then is_some (row_at take_guid input t)
+    else if is_kind 0x0D t then is_some (row_at revision_code.take input t)
+    else if is_kind 0x0E t then is_some (row_at cell_code.take input t)
+    else if is_kind 0x11 t then is_some (row_at manifest_code.take input t)
+    else if is_kind 0x19 t then is_some (row_at take_exguid input t)
+    else if is_kind 0x1A t then is_some (row_at (take_both take_exguid take_exguid) input t)
     else if is_kind 0x1D t then has_no_fields input t
     else if is_kind 0x1E t then has_no_fields input t
     else true

@@ -37,7 +37,7 @@ fn read_storage(alloc: Global, bytes: &[u8], tree: &Tree) -> Result<Body, Elemen
     }
     let children = tree.children.as_slice();
     check(alloc, bytes, 2, children)?;
-    let schema = only(bytes, tree, 0x0C)?;
+    let schema = only(alloc, bytes, tree, 0x0C)?;
     let roots = collect(alloc, bytes, children, 0x07)?;
     Ok(Body::Storage { schema, roots })
 }
@@ -50,7 +50,7 @@ fn read_cell(alloc: Global, bytes: &[u8], tree: &Tree) -> Result<Body, ElementFa
         return Err(fault(tree));
     }
     check(alloc, bytes, 3, tree.children.as_slice())?;
-    let current = only(bytes, tree, 0x0B)?;
+    let current = only(alloc, bytes, tree, 0x0B)?;
     Ok(Body::Cell { current })
 }
 
@@ -63,7 +63,7 @@ fn read_revision(alloc: Global, bytes: &[u8], tree: &Tree) -> Result<Body, Eleme
     }
     let children = tree.children.as_slice();
     check(alloc, bytes, 4, children)?;
-    let (id, base) = only(bytes, tree, 0x1A)?;
+    let (id, base) = only(alloc, bytes, tree, 0x1A)?;
     let roots = collect(alloc, bytes, children, 0x0A)?;
     let groups = collect(alloc, bytes, children, 0x19)?;
     Ok(Body::Revision {

@@ -1,5 +1,5 @@
 // Whether the children of an element are in form.
-ghost use Rattle.std.specs.Prelude.{◌≡◌, ◌||◌, [], ◌∷◌, filter};
+ghost use Rattle.std.specs.Prelude.{◌≡◌, ◌==◌, ◌||◌, [], ◌∷◌, filter, None, if◌then◌else◌};
 ghost use Rattle.stream_objects.specs.Objects.{is_kind};
 ghost use Rattle.doc_model.specs.ElementParts.{has_place, members_in};
 ghost use Rattle.data_elements.specs.Checking.{check_at, check_members, child_fault};
@@ -68,17 +68,26 @@ fn check_half(alloc: Global, bytes: &[u8], tree: &Tree) -> Result<(), ElementFau
     }
 }
 
+/// Whether what a child of an element of this kind holds is in form.
+fn check_inside(alloc: Global, bytes: &[u8], kind: u64, tree: &Tree) -> Result<(), ElementFault>
+    ensures { Passes result (if kind == 5 then check_members bytes.now (members_in tree.now) else None) }
+{
+    if kind == 5 {
+        check_half(alloc, bytes, tree)
+    } else {
+        Ok(())
+    }
+}
+
 /// Whether a child with a place is in form, and in a group what it holds.
 #[tactic(auto, unfolding(crate::specs::Checking::child_fault))]
 fn check_child(alloc: Global, bytes: &[u8], kind: u64, tree: &Tree) -> Result<(), ElementFault>
     ensures { Passes result (child_fault bytes.now kind tree.now) }
 {
-    if !child_ok(bytes, tree) {
-        Err(fault(tree))
-    } else if kind == 5 {
-        check_half(alloc, bytes, tree)
-    } else {
-        Ok(())
+    match child_ok(alloc, bytes, tree) {
+        Ok(true) => check_inside(alloc, bytes, kind, tree),
+        Ok(false) => Err(fault(tree)),
+        Err(NoMemory) => Err(ElementFault::NoMemory),
     }
 }
 

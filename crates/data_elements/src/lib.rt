@@ -11,7 +11,7 @@
 //! - `knowledge`: reading knowledge
 //! - `fault`: why objects are no package and no knowledge
 //! - `wire_fault`: why bytes are no request and no response
-//! - `write_index`, `write_manifests`, `write_group`: the objects in an element, by its kind, as they are written
+//! - `write_group`: the objects of a group as they are written
 //! - `write`: writing elements, packages and knowledge
 //! - `laws`: what is written stands in its form
 #![tactic(auto)]
@@ -30,8 +30,6 @@ mod rows;
 mod wire_fault;
 mod write;
 mod write_group;
-mod write_index;
-mod write_manifests;
 
 pub use fault::ElementFault;
 pub use knowledge::{guid_row, read_knowledge};
@@ -42,8 +40,10 @@ pub use wire_fault::WireFault;
 pub use write::{write_element, write_knowledge, write_package};
 
 #[cfg(test)]
-mod round_tests;
+mod knowledge_tests;
+#[cfg(test)]
+mod test_bodies;
+#[cfg(test)]
+mod test_forms;
 #[cfg(test)]
 mod tests;
-#[cfg(test)]
-mod write_tests;

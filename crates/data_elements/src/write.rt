@@ -7,11 +7,6 @@ ghost use Rattle.stream_objects.specs.Written.{started};
 ghost use Rattle.doc_model.specs.WrittenElements.{kind_number, body_bytes, element_bytes, numbered_bytes, package_bytes, range_bytes, ranges_bytes, cell_knowledge_bytes, knowledge_bytes};
 
 use crate::write_group::{write_blob, write_objects};
-use crate::write_index::{write_cell_maps, write_manifest_maps, write_revision_maps};
-use crate::write_manifests::{
-    write_current, write_group_references, write_revision, write_revision_roots, write_roots,
-    write_schema,
-};
 use compact_values::{
     Guid, NoMemory, Octets, Serial, guid_bytes, write_compact, write_exguid, write_guid,
     write_serial,
@@ -21,6 +16,7 @@ use doc_model::{
     serial_size,
 };
 use stream_objects::{begin, finish, start};
+use wire_kinds::{write_row, write_rows};
 
 /// The GUID of cell knowledge.
 const CELL_KNOWLEDGE: Guid = Guid {
@@ -53,24 +49,24 @@ fn write_body(out: &mut Octets, body: &Body) -> Result<(), NoMemory>
             cells,
             revisions,
         } => {
-            write_manifest_maps(out, manifests.as_slice())?;
-            write_cell_maps(out, cells.as_slice())?;
-            write_revision_maps(out, revisions.as_slice())
+            write_rows(out, 0x11, manifests.as_slice())?;
+            write_rows(out, 0x0E, cells.as_slice())?;
+            write_rows(out, 0x0D, revisions.as_slice())
         }
         Body::Storage { schema, roots } => {
-            write_schema(out, *schema)?;
-            write_roots(out, roots.as_slice())
+            write_row(out, 0x0C, schema)?;
+            write_rows(out, 0x07, roots.as_slice())
         }
-        Body::Cell { current } => write_current(out, current),
+        Body::Cell { current } => write_row(out, 0x0B, current),
         Body::Revision {
             id,
             base,
             roots,
             groups,
         } => {
-            write_revision(out, id, base)?;
-            write_revision_roots(out, roots.as_slice())?;
-            write_group_references(out, groups.as_slice())
+            write_row(out, 0x1A, &(*id, *base))?;
+            write_rows(out, 0x0A, roots.as_slice())?;
+            write_rows(out, 0x19, groups.as_slice())
         }
         Body::Group { objects } => write_objects(out, objects.as_slice()),
         Body::Blob { bytes } => write_blob(out, bytes.as_slice()),

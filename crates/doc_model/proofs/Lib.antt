@@ -1,3 +1,5 @@
+pub mod RegularFields
+pub mod ShortRows
 pub mod SizeLemmas
 pub mod NodeLaws
 pub mod Unmoved

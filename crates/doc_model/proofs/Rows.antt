@@ -24,8 +24,9 @@ use Rattle.doc_model.specs.Drawing.{last_number}
 use Rattle.doc_model.specs.Reached.{named_along, chain, absent, reached}
 use Rattle.doc_model.specs.Versions.{restore}
 use Rattle.doc_model.specs.Weights.{weight}
-use Rattle.doc_model.specs.WrittenElements.{element_bytes, body_bytes, manifest_map_bytes, cell_map_bytes, revision_map_bytes, schema_bytes, root_bytes, current_bytes, revision_bytes, revision_root_bytes, group_reference_bytes, declarations_bytes, declaration_bytes, datas_bytes, data_bytes}
+use Rattle.doc_model.specs.WrittenElements.{element_bytes, body_bytes, declarations_bytes, declaration_bytes, datas_bytes, data_bytes}
 use Rattle.stream_objects.specs.Written as written
+use Rattle.wire_kinds.specs.Row.{row_bytes}
 
 abbrev own : Guid
 own = record { number = 7 }
@@ -132,25 +133,25 @@ abbrev stored : ℕ → ℕ → Reply
 stored a b = reply.Stored (record { ranges = from_to a b ∷ [] })
 
 first_put : put start 5 [] (upload five (id 1) Null) ≡ record { doc = once; reply = stored 1 5; moved = true }
-unfolding named_along chain file_below weight element_bytes written.started body_bytes manifest_map_bytes cell_map_bytes revision_map_bytes schema_bytes root_bytes current_bytes revision_bytes revision_root_bytes group_reference_bytes declarations_bytes declaration_bytes datas_bytes data_bytes
+unfolding named_along chain file_below weight element_bytes written.started body_bytes declarations_bytes declaration_bytes datas_bytes data_bytes row_bytes
 first_put = refl
 
 second_put : put once 6 [] (upload three (id 11) (id 1)) ≡ record { doc = twice; reply = stored 6 8; moved = true }
-unfolding named_along chain file_below weight element_bytes written.started body_bytes manifest_map_bytes cell_map_bytes revision_map_bytes schema_bytes root_bytes current_bytes revision_bytes revision_root_bytes group_reference_bytes declarations_bytes declaration_bytes datas_bytes data_bytes
+unfolding named_along chain file_below weight element_bytes written.started body_bytes declarations_bytes declaration_bytes datas_bytes data_bytes row_bytes
 second_put = refl
 
 -- the first again is refused, and with the last writer winning too, since its index is committed
 again : (put once 6 [] (upload five (id 1) Null)).reply ≡ reply.Refused code.Coherency
-unfolding named_along chain file_below weight element_bytes written.started body_bytes manifest_map_bytes cell_map_bytes revision_map_bytes schema_bytes root_bytes current_bytes revision_bytes revision_root_bytes group_reference_bytes declarations_bytes declaration_bytes datas_bytes data_bytes
+unfolding named_along chain file_below weight element_bytes written.started body_bytes declarations_bytes declaration_bytes datas_bytes data_bytes row_bytes
 again = refl
 
 again_wins : (put once 6 [] (record (upload five (id 1) Null) { last_writer_wins = true })).reply ≡ reply.Refused code.InvalidObject
-unfolding named_along chain file_below weight element_bytes written.started body_bytes manifest_map_bytes cell_map_bytes revision_map_bytes schema_bytes root_bytes current_bytes revision_bytes revision_root_bytes group_reference_bytes declarations_bytes declaration_bytes datas_bytes data_bytes
+unfolding named_along chain file_below weight element_bytes written.started body_bytes declarations_bytes declaration_bytes datas_bytes data_bytes row_bytes
 again_wins = refl
 
 -- one that names what isn't there
 incomplete : (put start 5 [] (upload (take 4 five) (id 1) Null)).reply ≡ reply.Refused code.NotFound
-unfolding named_along chain file_below weight element_bytes written.started body_bytes manifest_map_bytes cell_map_bytes revision_map_bytes schema_bytes root_bytes current_bytes revision_bytes revision_root_bytes group_reference_bytes declarations_bytes declaration_bytes datas_bytes data_bytes
+unfolding named_along chain file_below weight element_bytes written.started body_bytes declarations_bytes declaration_bytes datas_bytes data_bytes row_bytes
 incomplete = refl
 
 -- an exclusive lock until 1000: it stands at 999 and not at 1000
@@ -162,7 +163,7 @@ unfolding named_along chain file_below
 at_999 = refl
 
 at_1000 : (put locked 1000 [] (upload five (id 1) Null)).moved ≡ true
-unfolding named_along chain file_below weight element_bytes written.started body_bytes manifest_map_bytes cell_map_bytes revision_map_bytes schema_bytes root_bytes current_bytes revision_bytes revision_root_bytes group_reference_bytes declarations_bytes declaration_bytes datas_bytes data_bytes
+unfolding named_along chain file_below weight element_bytes written.started body_bytes declarations_bytes declaration_bytes datas_bytes data_bytes row_bytes
 at_1000 = refl
 
 -- the first version restored: its index under the next number is the ninth element, and commits
@@ -179,7 +180,7 @@ thrice = record twice {
 }
 
 restored_once : restore twice 7 [] 1 None ≡ record { doc = thrice; reply = reply.Done; moved = true }
-unfolding named_along chain file_below weight element_bytes written.started body_bytes manifest_map_bytes cell_map_bytes revision_map_bytes schema_bytes root_bytes current_bytes revision_bytes revision_root_bytes group_reference_bytes declarations_bytes declaration_bytes datas_bytes data_bytes
+unfolding named_along chain file_below weight element_bytes written.started body_bytes declarations_bytes declaration_bytes datas_bytes data_bytes row_bytes
 restored_once = refl
 
 restored_file : file thrice.added (id 21) ≡ file twice.added (id 1)
@@ -193,7 +194,7 @@ knows_second = refl
 
 -- a put on the version itself is refused, since the stored index is the new one
 on_first : (put thrice 8 [] (upload [] (id 31) (id 1))).reply ≡ reply.Refused code.Coherency
-unfolding named_along chain file_below weight element_bytes written.started body_bytes manifest_map_bytes cell_map_bytes revision_map_bytes schema_bytes root_bytes current_bytes revision_bytes revision_root_bytes group_reference_bytes declarations_bytes declaration_bytes datas_bytes data_bytes
+unfolding named_along chain file_below weight element_bytes written.started body_bytes declarations_bytes declaration_bytes datas_bytes data_bytes row_bytes
 on_first = refl
 
 -- versions are counted from 1, a lock holds, and the numbers run out

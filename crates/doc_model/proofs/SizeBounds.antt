@@ -1,10 +1,10 @@
 -- Bounds on how many bytes written values, objects and elements take.
-use Rattle.std.proofs.Common.{◌≡◌, ℕ, ◌+◌, ◌*◌, ◌≤◌, ◌==◌, nat_le, nat_lt, Bool, true, false, cond, List, [], ◌∷◌, ◌++◌, length, refl, arith}
+use Rattle.std.proofs.Common.{◌≡◌, ℕ, ◌+◌, ◌-◌, ◌*◌, ◌^◌, ◌≤◌, min, ◌==◌, nat_le, nat_lt, Bool, true, false, cond, List, [], ◌∷◌, ◌++◌, length, refl, arith}
 use Rattle.std.specs.List.{flat_map}
 use Rattle.std.proofs.lemmas.List.{length-append}
 use Rattle.compact_values.specs.Compact.{compact, little_endian}
 use Rattle.compact_values.specs.GuidBytes.{guid_bytes}
-use Rattle.compact_values.specs.Ids.{exguid, exguid_value, serial, cell_id}
+use Rattle.compact_values.specs.Ids.{guid_spelling, exguid, serial, cell_id}
 use Rattle.compact_values.specs.Items.{item, array}
 use Rattle.compact_values.specs.declared.ids.ExGuid.{ExGuid}
 use Rattle.compact_values.specs.declared.ids.ExGuid.TheVariants.{Null, Id}
@@ -14,7 +14,7 @@ use Rattle.compact_values.specs.declared.ids.Serial.{Serial}
 use Rattle.compact_values.specs.declared.ids.Serial.TheVariants as serials
 use Rattle.stream_objects.specs.Written.{simple_object, compound_object}
 use Rattle.doc_model.specs.Weights.{started_size, weight}
-use Rattle.doc_model.specs.WrittenElements.{manifest_map_bytes, cell_map_bytes, revision_map_bytes, schema_bytes, root_bytes, current_bytes, revision_bytes, revision_root_bytes, group_reference_bytes, declaration_kind, declaration_fields, declaration_bytes, data_kind, data_fields, data_bytes, declarations_bytes, datas_bytes, size_if_any, kind_number, body_bytes, element_bytes}
+use Rattle.doc_model.specs.WrittenElements.{declaration_kind, declaration_fields, declaration_bytes, data_kind, data_fields, data_bytes, declarations_bytes, datas_bytes, size_if_any, kind_number, body_bytes, element_bytes}
 use Rattle.doc_model.specs.declared.element.ManifestMap.{ManifestMap}
 use Rattle.doc_model.specs.declared.element.CellMap.{CellMap}
 use Rattle.doc_model.specs.declared.element.RevisionMap.{RevisionMap}
@@ -25,36 +25,16 @@ use Rattle.doc_model.specs.declared.element.Object.{Object}
 use Rattle.doc_model.specs.declared.element.Content.{Content}
 use Rattle.doc_model.specs.declared.element.Content.TheVariants.{Inline, Apart}
 use Rattle.doc_model.specs.declared.element.Element.{Element}
-use Rattle.doc_model.proofs.SizeLemmas.{length_started, length_compound, length_three, length_schema, length_declarations, length_datas, length_kind}
+use Rattle.wire_kinds.specs.Row.{Row, row_bytes}
+use Rattle.wire_kinds.specs.Short.{Short, short_compact, short_exguid, short_cell_id}
+use Rattle.doc_model.specs.ElementRows.{manifest_mapping, cell_mapping, revision_mapping, schema_guid, manifest_root, current_revision, revision_manifest, revision_root, group_reference}
+use Rattle.doc_model.proofs.ShortRows.{short_manifest_mapping, short_cell_mapping, short_revision_mapping, short_manifest_root, short_current_revision, short_revision_manifest, short_revision_root, short_group_reference}
+use Rattle.doc_model.proofs.SizeLemmas.{length_started, length_compound, length_three, length_declarations, length_datas, length_kind}
 
 -- either list is short enough
 shorter : (n : ℕ) (b : Bool) (x y : List ℕ) → length x ≤ n → length y ≤ n → length (cond b x y) ≤ n
 shorter n true x y f g = f
 shorter n false x y f g = g
-
-pub few-compact : (v : ℕ) → length (compact v) ≤ 9
-few-compact v =
-    shorter 9 (v == 0) _ _ (omega arith)
-    (shorter 9 (nat_le v 0x7F) _ _ (omega arith)
-    (shorter 9 (nat_le v 0x3FFF) _ _ (omega arith)
-    (shorter 9 (nat_le v 0x1FFFFF) _ _ (omega arith)
-    (shorter 9 (nat_le v 0xFFFFFFF) _ _ (omega arith)
-    (shorter 9 (nat_le v 0x7FFFFFFFF) _ _ (omega arith)
-    (shorter 9 (nat_le v 0x3FFFFFFFFFF) _ _ (omega arith)
-    (shorter 9 (nat_le v 0x1FFFFFFFFFFFF) _ _ (omega arith) (omega arith))))))))
-
-few-value : (v : ℕ) → length (exguid_value v) ≤ 5
-few-value v =
-    shorter 5 (nat_le v 0x1F) _ _ (omega arith) (shorter 5 (nat_le v 0x3FF) _ _ (omega arith) (shorter 5 (nat_le v 0x1FFFF) _ _ (omega arith) (omega arith)))
-
-pub few-exguid : (id : ExGuid) → length (exguid id) ≤ 21
-few-exguid Null = omega arith
-few-exguid (Id g v) =
-    let sixteen : length (guid_bytes g.number) ≡ 16 = refl in
-    omega (arith, few-value v, length-append (exguid_value v) (guid_bytes g.number), sixteen)
-
-pub few-cell : (cell : CellId) → length (cell_id cell) ≤ 42
-few-cell cell = omega (arith, length-append (exguid cell.first) (exguid cell.second), few-exguid cell.first, few-exguid cell.second)
 
 -- ---- objects
 
@@ -64,7 +44,7 @@ few-started n = by (nat_le n 127) (nat_lt n 32767)
     by : (a b : Bool) → cond a 2 (cond b 4 (4 + length (compact n))) + n ≤ n + 13
     by true b = omega arith
     by false true = omega arith
-    by false false = omega (arith, few-compact n)
+    by false false = omega (arith, short_compact n)
 
 pub few-simple : (kind : ℕ) (fields : List ℕ) → kind ≤ 63 → length (simple_object kind fields) ≤ length fields + 13
 few-simple kind fields k = omega (arith, length_started kind false fields k, few-started (length fields))
@@ -83,7 +63,7 @@ own_length (Inline bytes) = length bytes
 own_length (Apart blob) = 0
 
 few-if-any : (size : ℕ) → length (size_if_any size) ≤ 9
-few-if-any size = shorter 9 (size == 0) [] (compact size) (omega arith) (few-compact size)
+few-if-any size = shorter 9 (size == 0) [] (compact size) (omega arith) (short_compact size)
 
 four : (a b c d : List ℕ) → length (a ++ b ++ c ++ d) ≡ length a + length b + length c + length d
 four a b c d = omega (arith, length-append (a ++ b ++ c) d, length_three a b c)
@@ -95,11 +75,11 @@ few-declared o (Inline bytes) =
       arith,
       length-append front (compact (length o.cells)),
       four (exguid o.id) (compact o.partition) (compact o.size) (compact (length o.references)),
-      few-exguid o.id,
-      few-compact o.partition,
-      few-compact o.size,
-      few-compact (length o.references),
-      few-compact (length o.cells),
+      short_exguid o.id,
+      short_compact o.partition,
+      short_compact o.size,
+      short_compact (length o.references),
+      short_compact (length o.cells),
     )
 few-declared o (Apart blob) =
     let front = exguid o.id ++ exguid blob ++ compact o.partition ++ size_if_any o.size in
@@ -109,12 +89,12 @@ few-declared o (Apart blob) =
       length-append middle (compact (length o.cells)),
       length-append front (compact (length o.references)),
       four (exguid o.id) (exguid blob) (compact o.partition) (size_if_any o.size),
-      few-exguid o.id,
-      few-exguid blob,
-      few-compact o.partition,
+      short_exguid o.id,
+      short_exguid blob,
+      short_compact o.partition,
       few-if-any o.size,
-      few-compact (length o.references),
-      few-compact (length o.cells),
+      short_compact (length o.references),
+      short_compact (length o.cells),
     )
 
 declared_kind : (c : Content) → declaration_kind c ≤ 63
@@ -127,27 +107,27 @@ few-declaration o =
     omega (arith, few-simple (declaration_kind o.content) (declaration_fields o o.content) (declared_kind o.content), few-declared o o.content)
 
 few-array : {X : Type 0} (f : X → List ℕ) (n : ℕ) (xs : List X) → ((x : X) → length (f x) ≤ n) → length (array f xs) ≤ n * length xs + 9
-few-array {X} f n xs h = omega (arith, length-append (compact (length xs)) (flat_map f xs), few-compact (length xs), few-flat f n xs h)
+few-array {X} f n xs h = omega (arith, length-append (compact (length xs)) (flat_map f xs), short_compact (length xs), few-flat f n xs h)
 
 pub few-item : (bytes : List ℕ) → length (item bytes) ≤ length bytes + 9
-few-item bytes = omega (arith, length-append (compact (length bytes)) bytes, few-compact (length bytes))
+few-item bytes = omega (arith, length-append (compact (length bytes)) bytes, short_compact (length bytes))
 
 few-fields : (o : Object) (c : Content) → length (data_fields o c) ≤ own_length c + 21 * length o.references + 42 * length o.cells + 39
 few-fields o (Inline bytes) =
     omega (
       arith,
       length_three (array exguid o.references) (array cell_id o.cells) (item bytes),
-      few-array exguid 21 o.references few-exguid,
-      few-array cell_id 42 o.cells few-cell,
+      few-array exguid 21 o.references short_exguid,
+      few-array cell_id 42 o.cells short_cell_id,
       few-item bytes,
     )
 few-fields o (Apart blob) =
     omega (
       arith,
       length_three (array exguid o.references) (array cell_id o.cells) (exguid blob),
-      few-array exguid 21 o.references few-exguid,
-      few-array cell_id 42 o.cells few-cell,
-      few-exguid blob,
+      few-array exguid 21 o.references short_exguid,
+      few-array cell_id 42 o.cells short_cell_id,
+      short_exguid blob,
     )
 
 datas_kind : (c : Content) → data_kind c ≤ 63
@@ -168,71 +148,49 @@ few-weight e =
       arith,
       few-compound 0x01 fields (body_bytes e.body) (omega arith),
       length_three (exguid e.id) (serial serials.Null) (compact (kind_number e.body)),
-      few-exguid e.id,
+      short_exguid e.id,
       length_kind e.body,
     )
 
-few-serial : (s : Serial) → length (serial s) ≤ 25
-few-serial serials.Null = omega arith
-few-serial (serials.Number g v) =
-    let sixteen : length (guid_bytes g.number) ≡ 16 = refl in
-    omega (arith, length-append (guid_bytes g.number) (little_endian 8 v), sixteen)
+few-row : {V : Type 0} (row : Row V) (n : ℕ) → row.number ≤ 63 → Short n row.fields → (v : V) → length (row_bytes row v) ≤ n + 13
+unfolding row_bytes
+few-row row n k short v = omega (arith, few-simple row.number (row.fields.bytes v) k, short v)
 
-few-manifest-map : (m : ManifestMap) → length (manifest_map_bytes m) ≤ 59
-unfolding manifest_map_bytes
-few-manifest-map m =
-    let fields = exguid m.target ++ serial m.serial in
-    omega (arith, few-simple 0x11 fields (omega arith), length-append (exguid m.target) (serial m.serial), few-exguid m.target, few-serial m.serial)
+pub few-manifest-map : (m : ManifestMap) → length (row_bytes manifest_mapping m) ≤ 59
+few-manifest-map = few-row manifest_mapping 46 (omega arith) short_manifest_mapping
 
-few-cell-map : (m : CellMap) → length (cell_map_bytes m) ≤ 101
-unfolding cell_map_bytes
-few-cell-map m =
-    let fields = cell_id m.cell ++ exguid m.target ++ serial m.serial in
-    omega (
-      arith,
-      few-simple 0x0E fields (omega arith),
-      length_three (cell_id m.cell) (exguid m.target) (serial m.serial),
-      few-cell m.cell,
-      few-exguid m.target,
-      few-serial m.serial,
-    )
+pub few-cell-map : (m : CellMap) → length (row_bytes cell_mapping m) ≤ 101
+few-cell-map = few-row cell_mapping 88 (omega arith) short_cell_mapping
 
-few-revision-map : (m : RevisionMap) → length (revision_map_bytes m) ≤ 80
-unfolding revision_map_bytes
-few-revision-map m =
-    let fields = exguid m.revision ++ exguid m.target ++ serial m.serial in
-    omega (
-      arith,
-      few-simple 0x0D fields (omega arith),
-      length_three (exguid m.revision) (exguid m.target) (serial m.serial),
-      few-exguid m.revision,
-      few-exguid m.target,
-      few-serial m.serial,
-    )
+pub few-revision-map : (m : RevisionMap) → length (row_bytes revision_mapping m) ≤ 80
+few-revision-map = few-row revision_mapping 67 (omega arith) short_revision_mapping
 
-few-root : (r : Root) → length (root_bytes r) ≤ 76
-unfolding root_bytes
-few-root r =
-    let fields = exguid r.root ++ cell_id r.cell in
-    omega (arith, few-simple 0x07 fields (omega arith), length-append (exguid r.root) (cell_id r.cell), few-exguid r.root, few-cell r.cell)
+pub few-schema : (g : Guid) → length (row_bytes schema_guid g) ≤ 18
+unfolding row_bytes
+few-schema g = omega (arith, length_started 0x0C false (guid_spelling g) (omega arith))
 
-few-current : (id : ExGuid) → length (current_bytes id) ≤ 34
-unfolding current_bytes
-few-current id = omega (arith, few-simple 0x0B (exguid id) (omega arith), few-exguid id)
+pub few-root : (r : Root) → length (row_bytes manifest_root r) ≤ 76
+few-root = few-row manifest_root 63 (omega arith) short_manifest_root
 
-few-revision : (id base : ExGuid) → length (revision_bytes id base) ≤ 55
-unfolding revision_bytes
-few-revision id base =
-    omega (arith, few-simple 0x1A (exguid id ++ exguid base) (omega arith), length-append (exguid id) (exguid base), few-exguid id, few-exguid base)
+pub few-current : (id : ExGuid) → length (row_bytes current_revision id) ≤ 34
+few-current = few-row current_revision 21 (omega arith) short_current_revision
 
-few-revision-root : (r : RevisionRoot) → length (revision_root_bytes r) ≤ 55
-unfolding revision_root_bytes
-few-revision-root r =
-    omega (arith, few-simple 0x0A (exguid r.root ++ exguid r.object) (omega arith), length-append (exguid r.root) (exguid r.object), few-exguid r.root, few-exguid r.object)
+pub few-revision : (ids : ExGuid × ExGuid) → length (row_bytes revision_manifest ids) ≤ 55
+few-revision = few-row revision_manifest 42 (omega arith) short_revision_manifest
 
-few-group-reference : (id : ExGuid) → length (group_reference_bytes id) ≤ 34
-unfolding group_reference_bytes
-few-group-reference id = omega (arith, few-simple 0x19 (exguid id) (omega arith), few-exguid id)
+pub few-revision-root : (r : RevisionRoot) → length (row_bytes revision_root r) ≤ 55
+few-revision-root = few-row revision_root 42 (omega arith) short_revision_root
+
+pub few-group-reference : (id : ExGuid) → length (row_bytes group_reference id) ≤ 34
+few-group-reference = few-row group_reference 21 (omega arith) short_group_reference
+
+-- What is counted up to the greatest number is the length, where the objects are few and short.
+pub exact-rows : {V : Type 0} (row : Row V) (vs : List V) (size : ℕ) → ((v : V) → length (row_bytes row v) ≤ 101) → length vs ≤ 262144 → size ≡ min (length (flat_map (row_bytes row) vs)) (2 ^ 64 - 1)
+    → size ≡ length (flat_map (row_bytes row) vs)
+exact-rows row vs size short few e = omega (arith, few-flat (row_bytes row) 101 vs short, few, e)
+
+pub exact-row : {V : Type 0} (row : Row V) (v : V) (size : ℕ) → length (row_bytes row v) ≤ 101 → size ≡ min (length (row_bytes row v)) (2 ^ 64 - 1) → size ≡ length (row_bytes row v)
+exact-row row v size short e = omega (arith, short, e)
 
 -- ---- bodies
 
@@ -241,16 +199,16 @@ unfolding body_bytes
 few-in-index m c r =
     omega (
       arith,
-      length_three (flat_map manifest_map_bytes m) (flat_map cell_map_bytes c) (flat_map revision_map_bytes r),
-      few-flat manifest_map_bytes 59 m few-manifest-map,
-      few-flat cell_map_bytes 101 c few-cell-map,
-      few-flat revision_map_bytes 80 r few-revision-map,
+      length_three (flat_map (row_bytes manifest_mapping) m) (flat_map (row_bytes cell_mapping) c) (flat_map (row_bytes revision_mapping) r),
+      few-flat (row_bytes manifest_mapping) 59 m few-manifest-map,
+      few-flat (row_bytes cell_mapping) 101 c few-cell-map,
+      few-flat (row_bytes revision_mapping) 80 r few-revision-map,
     )
 
 pub few-in-storage : (schema : Guid) (roots : List Root) → length (body_bytes (Storage schema roots)) ≤ 18 + 76 * length roots
 unfolding body_bytes
 few-in-storage schema roots =
-    omega (arith, length-append (schema_bytes schema) (flat_map root_bytes roots), length_schema schema, few-flat root_bytes 76 roots few-root)
+    omega (arith, length-append (row_bytes schema_guid schema) (flat_map (row_bytes manifest_root) roots), few-schema schema, few-flat (row_bytes manifest_root) 76 roots few-root)
 
 pub few-in-cell : (current : ExGuid) → length (body_bytes (Cell current)) ≤ 34
 unfolding body_bytes
@@ -261,10 +219,10 @@ unfolding body_bytes
 few-in-revision id base roots groups =
     omega (
       arith,
-      length_three (revision_bytes id base) (flat_map revision_root_bytes roots) (flat_map group_reference_bytes groups),
-      few-revision id base,
-      few-flat revision_root_bytes 55 roots few-revision-root,
-      few-flat group_reference_bytes 34 groups few-group-reference,
+      length_three (row_bytes revision_manifest (id, base)) (flat_map (row_bytes revision_root) roots) (flat_map (row_bytes group_reference) groups),
+      few-revision (id, base),
+      few-flat (row_bytes revision_root) 55 roots few-revision-root,
+      few-flat (row_bytes group_reference) 34 groups few-group-reference,
     )
 
 pub length-in-group : (objects : List Object) → length (body_bytes (Group objects)) ≡ 6 + length (flat_map declaration_bytes objects) + length (flat_map data_bytes objects)

@@ -9,7 +9,7 @@ use Rattle.compact_values.specs.declared.ids.ExGuid.{ExGuid}
 use Rattle.stream_objects.specs.Written.{started, compound_object}
 use Rattle.stream_objects.specs.Headers.{end_bytes, end_form}
 use Rattle.doc_model.specs.Weights.{started_size}
-use Rattle.doc_model.specs.WrittenElements.{declaration_bytes, data_bytes, declarations_bytes, datas_bytes, schema_bytes, revision_bytes, kind_number}
+use Rattle.doc_model.specs.WrittenElements.{declaration_bytes, data_bytes, declarations_bytes, datas_bytes, kind_number}
 use Rattle.doc_model.specs.declared.element.Object.{Object}
 use Rattle.doc_model.specs.declared.element.Body.{Body}
 use Rattle.doc_model.specs.declared.element.Body.TheVariants.{Index, Storage, Cell, Revision, Group, Blob}
@@ -32,14 +32,6 @@ length_compound kind fields children k =
     let e = end_bytes (end_form kind) kind in
     let one : length e ≡ 1 = grind (arith, nat_tests) in
     omega (arith, length-append (started kind true fields) (children ++ e), length-append children e, length_started kind true fields k, one)
-
-pub length_schema : (schema : Guid) → length (schema_bytes schema) ≡ 18
-unfolding schema_bytes
-length_schema schema = length_started 0x0C false (guid_spelling schema) (omega arith)
-
-pub length_revision : (id base : ExGuid) (n r : ℕ) → n ≡ length (exguid id) + length (exguid base) → r ≡ started_size n → r ≡ length (revision_bytes id base)
-unfolding revision_bytes
-length_revision id base n r e f = sized 0x1A false (exguid id ++ exguid base) n r (omega arith) (e ∙ sym (length-append (exguid id) (exguid base))) f
 
 pub length_declarations : (objects : List Object) → length (declarations_bytes objects) ≡ 2 + length (flat_map declaration_bytes objects) + 1
 unfolding declarations_bytes

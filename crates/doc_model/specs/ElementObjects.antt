@@ -35,47 +35,11 @@ ElementFields input tree id serial kind = HasFields true (SpellsExGuid ▹ Spell
 
 -- ---- storage index (2.2.1.12.2)
 
--- 11, manifest mapping: extended GUID target, serial number
-abbrev pub ManifestMapping : List ℕ → Tree → ManifestMap → Type 0
-ManifestMapping input tree m = HasFields false (SpellsExGuid ▹ SpellsSerial) input tree (m.target, m.serial)
-
--- 0E, cell mapping: cell id, extended GUID target, serial number
-abbrev pub CellMapping : List ℕ → Tree → CellMap → Type 0
-CellMapping input tree m = HasFields false (SpellsCellId ▹ SpellsExGuid ▹ SpellsSerial) input tree (m.cell, (m.target, m.serial))
-
--- 0D, revision mapping: extended GUID revision, extended GUID target, serial number
-abbrev pub RevisionMapping : List ℕ → Tree → RevisionMap → Type 0
-RevisionMapping input tree m = HasFields false (SpellsExGuid ▹ SpellsExGuid ▹ SpellsSerial) input tree (m.revision, (m.target, m.serial))
-
 -- ---- storage manifest (2.2.1.12.3)
-
--- 0C, schema GUID: 16 bytes
-abbrev pub SchemaGuid : List ℕ → Tree → Guid → Type 0
-SchemaGuid input tree guid = HasFields false SpellsGuid input tree guid
-
--- 07, manifest root: extended GUID root, cell id
-abbrev pub ManifestRoot : List ℕ → Tree → Root → Type 0
-ManifestRoot input tree r = HasFields false (SpellsExGuid ▹ SpellsCellId) input tree (r.root, r.cell)
 
 -- ---- cell manifest (2.2.1.12.4)
 
--- 0B, current revision: extended GUID
-abbrev pub CurrentRevision : List ℕ → Tree → ExGuid → Type 0
-CurrentRevision input tree id = HasFields false SpellsExGuid input tree id
-
 -- ---- revision manifest (2.2.1.12.5)
-
--- 1A, revision manifest: extended GUID revision, extended GUID base
-abbrev pub RevisionManifest : List ℕ → Tree → ExGuid × ExGuid → Type 0
-RevisionManifest input tree ids = HasFields false (SpellsExGuid ▹ SpellsExGuid) input tree ids
-
--- 0A, revision root: extended GUID root, extended GUID object
-abbrev pub IsRevisionRoot : List ℕ → Tree → RevisionRoot → Type 0
-IsRevisionRoot input tree r = HasFields false (SpellsExGuid ▹ SpellsExGuid) input tree (r.root, r.object)
-
--- 19, group reference: extended GUID
-abbrev pub GroupReference : List ℕ → Tree → ExGuid → Type 0
-GroupReference input tree id = HasFields false SpellsExGuid input tree id
 
 -- ---- object group (2.2.1.12.6)
 

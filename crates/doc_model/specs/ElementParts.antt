@@ -13,13 +13,15 @@ use Rattle.stream_objects.specs.declared.tree.Tree.{Tree}
 use Rattle.stream_objects.specs.declared.tree.Tree.TheViews.{out-Tree}
 use Rattle.stream_objects.specs.Objects.{HasOne, kind_of, is_kind, start_of, children_of}
 use Rattle.stream_objects.specs.ObjectFields.{compound_fields}
-use Rattle.doc_model.specs.ElementObjects.{NoFields, PackageFields, ElementFields, ManifestMapping, CellMapping, RevisionMapping, SchemaGuid, ManifestRoot, CurrentRevision, RevisionManifest, IsRevisionRoot, GroupReference, ObjectDeclaration, BlobDeclaration, ObjectData, BlobReference, BlobContent}
+use Rattle.doc_model.specs.ElementObjects.{NoFields, PackageFields, ElementFields, ObjectDeclaration, BlobDeclaration, ObjectData, BlobReference, BlobContent}
 use Rattle.doc_model.specs.Groups.{HalvesAgree, declarations_in, data_in}
 use Rattle.doc_model.specs.declared.element.ManifestMap.{ManifestMap}
 use Rattle.doc_model.specs.declared.element.CellMap.{CellMap}
 use Rattle.doc_model.specs.declared.element.RevisionMap.{RevisionMap}
 use Rattle.doc_model.specs.declared.element.Root.{Root}
 use Rattle.doc_model.specs.declared.element.RevisionRoot.{RevisionRoot}
+use Rattle.wire_kinds.specs.Row.{IsOf}
+use Rattle.doc_model.specs.ElementRows.{manifest_mapping, cell_mapping, revision_mapping, schema_guid, manifest_root, current_revision, revision_manifest, revision_root, group_reference}
 
 -- a package, an element, a child of an element, and a declaration or the data of an object of a group
 pub data Part : Type 0 where
@@ -40,15 +42,15 @@ pub record KindInForm (input : List ℕ) (kind : ℕ) (t : Tree) : Type 0 where
 -- Its fields are those of its type.
 pub record ChildInForm (input : List ℕ) (t : Tree) : Type 0 where
   pub blob : kind_of t ≡ 0x02 → (v : List ℕ) × BlobContent input t v
-  pub manifest_root : kind_of t ≡ 0x07 → (v : Root) × ManifestRoot input t v
-  pub revision_root : kind_of t ≡ 0x0A → (v : RevisionRoot) × IsRevisionRoot input t v
-  pub current : kind_of t ≡ 0x0B → (v : ExGuid) × CurrentRevision input t v
-  pub schema : kind_of t ≡ 0x0C → (v : Guid) × SchemaGuid input t v
-  pub revision_mapping : kind_of t ≡ 0x0D → (v : RevisionMap) × RevisionMapping input t v
-  pub cell_mapping : kind_of t ≡ 0x0E → (v : CellMap) × CellMapping input t v
-  pub manifest_mapping : kind_of t ≡ 0x11 → (v : ManifestMap) × ManifestMapping input t v
-  pub group : kind_of t ≡ 0x19 → (v : ExGuid) × GroupReference input t v
-  pub revision : kind_of t ≡ 0x1A → (v : ExGuid × ExGuid) × RevisionManifest input t v
+  pub manifest_root : kind_of t ≡ 0x07 → (v : Root) × IsOf manifest_root input t v
+  pub revision_root : kind_of t ≡ 0x0A → (v : RevisionRoot) × IsOf revision_root input t v
+  pub current : kind_of t ≡ 0x0B → (v : ExGuid) × IsOf current_revision input t v
+  pub schema : kind_of t ≡ 0x0C → (v : Guid) × IsOf schema_guid input t v
+  pub revision_mapping : kind_of t ≡ 0x0D → (v : RevisionMap) × IsOf revision_mapping input t v
+  pub cell_mapping : kind_of t ≡ 0x0E → (v : CellMap) × IsOf cell_mapping input t v
+  pub manifest_mapping : kind_of t ≡ 0x11 → (v : ManifestMap) × IsOf manifest_mapping input t v
+  pub group : kind_of t ≡ 0x19 → (v : ExGuid) × IsOf group_reference input t v
+  pub revision : kind_of t ≡ 0x1A → (v : ExGuid × ExGuid) × IsOf revision_manifest input t v
   pub declarations : kind_of t ≡ 0x1D → NoFields input t
   pub data_of : kind_of t ≡ 0x1E → NoFields input t
 

@@ -4,21 +4,23 @@ use Rattle.std.specs.Prelude.{◌≡◌, ℕ, List}
 use Rattle.compact_values.specs.declared.ids.Serial.{Serial}
 use Rattle.stream_objects.specs.declared.tree.Tree.{Tree}
 use Rattle.stream_objects.specs.Objects.{One, Any}
-use Rattle.doc_model.specs.ElementObjects.{PackageFields, ElementFields, ManifestMapping, CellMapping, RevisionMapping, SchemaGuid, ManifestRoot, CurrentRevision, RevisionManifest, IsRevisionRoot, GroupReference, BlobContent}
+use Rattle.doc_model.specs.ElementObjects.{PackageFields, ElementFields, BlobContent}
 use Rattle.doc_model.specs.Groups.{SaysGroup}
 use Rattle.doc_model.specs.declared.element.Element.{Element}
 use Rattle.doc_model.specs.declared.element.Body.{Body}
 use Rattle.doc_model.specs.declared.element.Body.TheVariants.{Index, Storage, Cell, Revision, Group, Blob}
+use Rattle.wire_kinds.specs.Row.{IsOf}
+use Rattle.doc_model.specs.ElementRows.{manifest_mapping, cell_mapping, revision_mapping, schema_guid, manifest_root, current_revision, revision_manifest, revision_root, group_reference}
 
 -- The children of an element of this kind say this. The kinds are decimal: 1 storage index, 2 storage manifest, 3 cell
 -- manifest, 4 revision manifest, 5 object group, 10 object data blob. "One" is exactly one, "any" is any number.
 abbrev pub SaysBody : List ℕ → Tree → ℕ → Body → Type 0
 SaysBody input t kind (Index manifests cells revisions) =
-    (kind ≡ 1) × Any 0x11 (ManifestMapping input) t manifests × Any 0x0E (CellMapping input) t cells × Any 0x0D (RevisionMapping input) t revisions
-SaysBody input t kind (Storage schema roots) = (kind ≡ 2) × One 0x0C (SchemaGuid input) t schema × Any 0x07 (ManifestRoot input) t roots
-SaysBody input t kind (Cell current) = (kind ≡ 3) × One 0x0B (CurrentRevision input) t current
+    (kind ≡ 1) × Any 0x11 (IsOf manifest_mapping input) t manifests × Any 0x0E (IsOf cell_mapping input) t cells × Any 0x0D (IsOf revision_mapping input) t revisions
+SaysBody input t kind (Storage schema roots) = (kind ≡ 2) × One 0x0C (IsOf schema_guid input) t schema × Any 0x07 (IsOf manifest_root input) t roots
+SaysBody input t kind (Cell current) = (kind ≡ 3) × One 0x0B (IsOf current_revision input) t current
 SaysBody input t kind (Revision id base roots groups) =
-    (kind ≡ 4) × One 0x1A (RevisionManifest input) t (id, base) × Any 0x0A (IsRevisionRoot input) t roots × Any 0x19 (GroupReference input) t groups
+    (kind ≡ 4) × One 0x1A (IsOf revision_manifest input) t (id, base) × Any 0x0A (IsOf revision_root input) t roots × Any 0x19 (IsOf group_reference input) t groups
 SaysBody input t kind (Group objects) = (kind ≡ 5) × SaysGroup input t objects
 SaysBody input t kind (Blob bytes) = (kind ≡ 10) × One 0x02 (BlobContent input) t bytes
 

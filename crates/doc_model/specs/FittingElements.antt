@@ -17,21 +17,7 @@ use Rattle.doc_model.specs.declared.element.Body.TheVariants.{Index, Storage, Ce
 use Rattle.doc_model.specs.declared.element.Element.{Element}
 use Rattle.doc_model.specs.declared.element.NumberedElement.{NumberedElement}
 use Rattle.doc_model.specs.declared.knowledge.Range.{Range}
-
-abbrev pub FitsManifestMap : ManifestMap → Type 0
-FitsManifestMap m = FitsExGuid m.target × FitsSerial m.serial
-
-abbrev pub FitsCellMap : CellMap → Type 0
-FitsCellMap m = FitsCellId m.cell × FitsExGuid m.target × FitsSerial m.serial
-
-abbrev pub FitsRevisionMap : RevisionMap → Type 0
-FitsRevisionMap m = FitsExGuid m.revision × FitsExGuid m.target × FitsSerial m.serial
-
-abbrev pub FitsRoot : Root → Type 0
-FitsRoot r = FitsExGuid r.root × FitsCellId r.cell
-
-abbrev pub FitsRevisionRoot : RevisionRoot → Type 0
-FitsRevisionRoot r = FitsExGuid r.root × FitsExGuid r.object
+use Rattle.doc_model.specs.ElementRows.{manifest_mapping, cell_mapping, revision_mapping, manifest_root, revision_root}
 
 abbrev pub FitsContent : Content → Type 0
 FitsContent (Inline bytes) = FitsItem bytes
@@ -48,10 +34,10 @@ pub record FitsObject (o : Object) : Type 0 where
   pub short : length (data_fields o o.content) < 2 ^ 64
 
 abbrev pub FitsBody : Body → Type 0
-FitsBody (Index manifests cells revisions) = AllByRecursion FitsManifestMap manifests × AllByRecursion FitsCellMap cells × AllByRecursion FitsRevisionMap revisions
-FitsBody (Storage schema roots) = FitsGuid schema × AllByRecursion FitsRoot roots
+FitsBody (Index manifests cells revisions) = AllByRecursion manifest_mapping.fields.Fits manifests × AllByRecursion cell_mapping.fields.Fits cells × AllByRecursion revision_mapping.fields.Fits revisions
+FitsBody (Storage schema roots) = FitsGuid schema × AllByRecursion manifest_root.fields.Fits roots
 FitsBody (Cell current) = FitsExGuid current
-FitsBody (Revision id base roots groups) = FitsExGuid id × FitsExGuid base × AllByRecursion FitsRevisionRoot roots × AllByRecursion FitsExGuid groups
+FitsBody (Revision id base roots groups) = FitsExGuid id × FitsExGuid base × AllByRecursion revision_root.fields.Fits roots × AllByRecursion FitsExGuid groups
 FitsBody (Group objects) = AllByRecursion FitsObject objects
 FitsBody (Blob bytes) = length (item bytes) < 2 ^ 64
 

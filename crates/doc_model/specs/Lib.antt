@@ -1,3 +1,5 @@
+pub mod ElementRows
+pub mod ElementCodes
 pub mod Limits
 pub mod Turns
 pub mod Drawing

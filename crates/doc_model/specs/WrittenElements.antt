@@ -26,50 +26,16 @@ use Rattle.doc_model.specs.declared.element.Element.{Element}
 use Rattle.doc_model.specs.declared.element.NumberedElement.{NumberedElement}
 use Rattle.doc_model.specs.declared.knowledge.Range.{Range}
 use Rattle.doc_model.specs.declared.knowledge.Knowledge.{Knowledge}
+use Rattle.wire_kinds.specs.Row.{row_bytes}
+use Rattle.doc_model.specs.ElementRows.{manifest_mapping, cell_mapping, revision_mapping, schema_guid, manifest_root, current_revision, revision_manifest, revision_root, group_reference}
 
 -- ---- 1, storage index (2.2.1.12.2)
 
--- 11, manifest mapping: extended GUID target, serial number
-unfoldable pub manifest_map_bytes : ManifestMap → List ℕ
-manifest_map_bytes m = simple_object 0x11 (exguid m.target ++ serial m.serial)
-
--- 0E, cell mapping: cell id, extended GUID target, serial number
-unfoldable pub cell_map_bytes : CellMap → List ℕ
-cell_map_bytes m = simple_object 0x0E (cell_id m.cell ++ exguid m.target ++ serial m.serial)
-
--- 0D, revision mapping: extended GUID revision, extended GUID target, serial number
-unfoldable pub revision_map_bytes : RevisionMap → List ℕ
-revision_map_bytes m = simple_object 0x0D (exguid m.revision ++ exguid m.target ++ serial m.serial)
-
 -- ---- 2, storage manifest (2.2.1.12.3)
-
--- 0C, schema GUID: 16 bytes
-unfoldable pub schema_bytes : Guid → List ℕ
-schema_bytes schema = simple_object 0x0C (guid_spelling schema)
-
--- 07, manifest root: extended GUID root, cell id
-unfoldable pub root_bytes : Root → List ℕ
-root_bytes r = simple_object 0x07 (exguid r.root ++ cell_id r.cell)
 
 -- ---- 3, cell manifest (2.2.1.12.4)
 
--- 0B, current revision: extended GUID
-unfoldable pub current_bytes : ExGuid → List ℕ
-current_bytes current = simple_object 0x0B (exguid current)
-
 -- ---- 4, revision manifest (2.2.1.12.5)
-
--- 1A, revision manifest: extended GUID revision, extended GUID base
-unfoldable pub revision_bytes : ExGuid → ExGuid → List ℕ
-revision_bytes id base = simple_object 0x1A (exguid id ++ exguid base)
-
--- 0A, revision root: extended GUID root, extended GUID object
-unfoldable pub revision_root_bytes : RevisionRoot → List ℕ
-revision_root_bytes r = simple_object 0x0A (exguid r.root ++ exguid r.object)
-
--- 19, group reference: extended GUID
-unfoldable pub group_reference_bytes : ExGuid → List ℕ
-group_reference_bytes group = simple_object 0x19 (exguid group)
 
 -- ---- 5, object group (2.2.1.12.6)
 
@@ -129,10 +95,10 @@ kind_number (Blob bytes) = 10
 
 -- the children of an element, in the order in which they are written
 unfoldable pub body_bytes : Body → List ℕ
-body_bytes (Index manifests cells revisions) = flat_map manifest_map_bytes manifests ++ flat_map cell_map_bytes cells ++ flat_map revision_map_bytes revisions
-body_bytes (Storage schema roots) = schema_bytes schema ++ flat_map root_bytes roots
-body_bytes (Cell current) = current_bytes current
-body_bytes (Revision id base roots groups) = revision_bytes id base ++ flat_map revision_root_bytes roots ++ flat_map group_reference_bytes groups
+body_bytes (Index manifests cells revisions) = flat_map (row_bytes manifest_mapping) manifests ++ flat_map (row_bytes cell_mapping) cells ++ flat_map (row_bytes revision_mapping) revisions
+body_bytes (Storage schema roots) = row_bytes schema_guid schema ++ flat_map (row_bytes manifest_root) roots
+body_bytes (Cell current) = row_bytes current_revision current
+body_bytes (Revision id base roots groups) = row_bytes revision_manifest (id, base) ++ flat_map (row_bytes revision_root) roots ++ flat_map (row_bytes group_reference) groups
 body_bytes (Group objects) = declarations_bytes objects ++ datas_bytes objects
 body_bytes (Blob bytes) = blob_bytes bytes
 

@@ -12,6 +12,7 @@
 //! - `copied`, `same`: copies of plain data, and exact comparison
 //! - `laws`, `lock_laws`, `history_laws`: what holds of the definitions themselves
 //! - `request`: what a request asks for
+//! - `element_rows`: the regular objects of elements as tuples of their fields
 //! - `sizes`: how many bytes the values of a written element take
 //! - `weighing`: how many bytes a written element takes
 //! - `reply`: what became of a call
@@ -25,6 +26,7 @@ mod core_trait;
 mod doc;
 mod editor;
 mod element;
+mod element_rows;
 pub mod history_laws;
 mod knowledge;
 pub mod laws;

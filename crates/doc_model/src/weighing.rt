@@ -2,149 +2,28 @@
 
 ghost use Rattle.std.specs.Prelude.{◌≡◌, ◌+◌, ◌*◌, ◌≤◌, ◌^◌, ◌++◌, length};
 ghost use Rattle.std.specs.List.{flat_map};
-ghost use Rattle.doc_model.specs.WrittenElements.{manifest_map_bytes, cell_map_bytes, revision_map_bytes, schema_bytes, root_bytes, current_bytes, revision_bytes, revision_root_bytes, group_reference_bytes, declaration_bytes, data_bytes, declarations_bytes, datas_bytes, blob_bytes, body_bytes};
+ghost use Rattle.wire_kinds.specs.Row.{row_bytes};
+ghost use Rattle.doc_model.specs.ElementRows.{manifest_mapping, cell_mapping, revision_mapping, schema_guid, manifest_root, current_revision, revision_manifest, revision_root, group_reference};
+ghost use Rattle.doc_model.specs.WrittenElements.{declaration_bytes, data_bytes, declarations_bytes, datas_bytes, blob_bytes, body_bytes};
 ghost use Rattle.doc_model.specs.Weights.{weight, objects_in, objects_written};
 
 use crate::element::{
     Body, CellMap, Element, ManifestMap, Object, RevisionMap, RevisionRoot, Root,
 };
-use crate::sizes::{
-    cell_id_size, data_size, declaration_size, exguid_size, item_size, serial_size, started_size,
-};
+use crate::sizes::{data_size, declaration_size, exguid_size, item_size, started_size};
 use compact_values::{ExGuid, Guid};
+use wire_kinds::{row_size, size_of_rows};
 
-// The mapping of a storage manifest.
-#[tactic(auto, using(crate::proofs::SizeLemmas::length_started), unfolding(crate::specs::WrittenElements::manifest_map_bytes))]
-fn manifest_map_weight(map: &ManifestMap) -> u128
-    ensures length { result ≡ length (manifest_map_bytes map.now) }
-    ensures few { result ≤ 2 ^ 73 }
+// The children of a storage index.
+fn index_weight(manifests: &[ManifestMap], cells: &[CellMap], revisions: &[RevisionMap]) -> u128
+    requires { length manifests.now + length cells.now + length revisions.now ≤ 262144 }
+    ensures length { result ≡ length (flat_map (row_bytes manifest_mapping) manifests.now ++ flat_map (row_bytes cell_mapping) cells.now ++ flat_map (row_bytes revision_mapping) revisions.now) }
+    ensures few { result ≤ 2 ^ 93 }
 {
-    started_size((exguid_size(&map.target) + serial_size(&map.serial)) as u128)
-}
-
-// The mappings of storage manifests.
-fn manifest_maps_weight(manifest_maps: &[ManifestMap]) -> u128
-    requires { length manifest_maps.now ≤ 262144 }
-    ensures length { result ≡ length (flat_map manifest_map_bytes manifest_maps.now) }
-    ensures few { result ≤ 2 ^ 73 * length manifest_maps.now }
-{
-    let mut size = 0;
-    for map in manifest_maps {
-        size += manifest_map_weight(map);
-    }
-    size
-}
-
-// The mapping of a cell.
-fn cell_map_weight(map: &CellMap) -> u128
-    ensures length { result ≡ length (cell_map_bytes map.now) }
-    ensures few { result ≤ 2 ^ 73 }
-{
-    started_size(
-        (cell_id_size(&map.cell) + exguid_size(&map.target) + serial_size(&map.serial)) as u128,
-    )
-}
-
-// The mappings of cells.
-fn cell_maps_weight(cell_maps: &[CellMap]) -> u128
-    requires { length cell_maps.now ≤ 262144 }
-    ensures length { result ≡ length (flat_map cell_map_bytes cell_maps.now) }
-    ensures few { result ≤ 2 ^ 73 * length cell_maps.now }
-{
-    let mut size = 0;
-    for map in cell_maps {
-        size += cell_map_weight(map);
-    }
-    size
-}
-
-// The mapping of a revision.
-fn revision_map_weight(map: &RevisionMap) -> u128
-    ensures length { result ≡ length (revision_map_bytes map.now) }
-    ensures few { result ≤ 2 ^ 73 }
-{
-    started_size(
-        (exguid_size(&map.revision) + exguid_size(&map.target) + serial_size(&map.serial)) as u128,
-    )
-}
-
-// The mappings of revisions.
-fn revision_maps_weight(revision_maps: &[RevisionMap]) -> u128
-    requires { length revision_maps.now ≤ 262144 }
-    ensures length { result ≡ length (flat_map revision_map_bytes revision_maps.now) }
-    ensures few { result ≤ 2 ^ 73 * length revision_maps.now }
-{
-    let mut size = 0;
-    for map in revision_maps {
-        size += revision_map_weight(map);
-    }
-    size
-}
-
-// A root of the storage.
-#[tactic(auto, using(crate::proofs::SizeLemmas::length_started), unfolding(crate::specs::WrittenElements::root_bytes))]
-fn root_weight(root: &Root) -> u128
-    ensures length { result ≡ length (root_bytes root.now) }
-    ensures few { result ≤ 2 ^ 73 }
-{
-    started_size((exguid_size(&root.root) + cell_id_size(&root.cell)) as u128)
-}
-
-// The roots of the storage.
-fn roots_weight(roots: &[Root]) -> u128
-    requires { length roots.now ≤ 262144 }
-    ensures length { result ≡ length (flat_map root_bytes roots.now) }
-    ensures few { result ≤ 2 ^ 73 * length roots.now }
-{
-    let mut size = 0;
-    for root in roots {
-        size += root_weight(root);
-    }
-    size
-}
-
-// A root of a revision.
-#[tactic(auto, using(crate::proofs::SizeLemmas::length_started), unfolding(crate::specs::WrittenElements::revision_root_bytes))]
-fn revision_root_weight(root: &RevisionRoot) -> u128
-    ensures length { result ≡ length (revision_root_bytes root.now) }
-    ensures few { result ≤ 2 ^ 73 }
-{
-    started_size((exguid_size(&root.root) + exguid_size(&root.object)) as u128)
-}
-
-// The roots of a revision.
-fn revision_roots_weight(revision_roots: &[RevisionRoot]) -> u128
-    requires { length revision_roots.now ≤ 262144 }
-    ensures length { result ≡ length (flat_map revision_root_bytes revision_roots.now) }
-    ensures few { result ≤ 2 ^ 73 * length revision_roots.now }
-{
-    let mut size = 0;
-    for root in revision_roots {
-        size += revision_root_weight(root);
-    }
-    size
-}
-
-// The reference to a group.
-#[tactic(auto, using(crate::proofs::SizeLemmas::length_started), unfolding(crate::specs::WrittenElements::group_reference_bytes))]
-fn group_reference_weight(group: &ExGuid) -> u128
-    ensures length { result ≡ length (group_reference_bytes group.now) }
-    ensures few { result ≤ 2 ^ 73 }
-{
-    started_size(exguid_size(group) as u128)
-}
-
-// The references to groups.
-fn group_references_weight(group_references: &[ExGuid]) -> u128
-    requires { length group_references.now ≤ 262144 }
-    ensures length { result ≡ length (flat_map group_reference_bytes group_references.now) }
-    ensures few { result ≤ 2 ^ 73 * length group_references.now }
-{
-    let mut size = 0;
-    for group in group_references {
-        size += group_reference_weight(group);
-    }
-    size
+    let manifests = size_of_rows(0x11, manifests) as u128;
+    let cells = size_of_rows(0x0E, cells) as u128;
+    let revisions = size_of_rows(0x0D, revisions) as u128;
+    manifests + cells + revisions
 }
 
 // The declaration of an object.
@@ -201,33 +80,32 @@ fn group_weight(objects: &[Object]) -> u128
 }
 
 // The children of a storage manifest.
-fn storage_weight(schema: Guid, roots: &[Root]) -> u128
+fn storage_weight(schema: &Guid, roots: &[Root]) -> u128
     requires { length roots.now ≤ 262144 }
-    ensures length { result ≡ length (schema_bytes schema ++ flat_map root_bytes roots.now) }
+    ensures length { result ≡ length (row_bytes schema_guid schema.now ++ flat_map (row_bytes manifest_root) roots.now) }
     ensures few { result ≤ 2 ^ 93 }
 {
-    let _schema = schema;
-    started_size(16) + roots_weight(roots)
-}
-
-// The children of a revision manifest.
-fn revision_weight(id: &ExGuid, base: &ExGuid, roots: &[RevisionRoot], groups: &[ExGuid]) -> u128
-    requires { length roots.now + length groups.now ≤ 262144 }
-    ensures length { result ≡ length (revision_bytes id.now base.now ++ flat_map revision_root_bytes roots.now ++ flat_map group_reference_bytes groups.now) }
-    ensures few { result ≤ 2 ^ 93 }
-{
-    started_size((exguid_size(id) + exguid_size(base)) as u128)
-        + revision_roots_weight(roots)
-        + group_references_weight(groups)
+    row_size(0x0C, schema) as u128 + size_of_rows(0x07, roots) as u128
 }
 
 // The child of a cell manifest.
-#[tactic(auto, using(crate::proofs::SizeLemmas::length_started), unfolding(crate::specs::WrittenElements::current_bytes))]
 fn current_weight(current: &ExGuid) -> u128
-    ensures length { result ≡ length (current_bytes current.now) }
+    ensures length { result ≡ length (row_bytes current_revision current.now) }
     ensures few { result ≤ 2 ^ 93 }
 {
-    started_size(exguid_size(current) as u128)
+    row_size(0x0B, current) as u128
+}
+
+// The children of a revision manifest.
+fn revision_weight(ids: &(ExGuid, ExGuid), roots: &[RevisionRoot], groups: &[ExGuid]) -> u128
+    requires { length roots.now + length groups.now ≤ 262144 }
+    ensures length { result ≡ length (row_bytes revision_manifest ids.now ++ flat_map (row_bytes revision_root) roots.now ++ flat_map (row_bytes group_reference) groups.now) }
+    ensures few { result ≤ 2 ^ 93 }
+{
+    let ids = row_size(0x1A, ids) as u128;
+    let roots = size_of_rows(0x0A, roots) as u128;
+    let groups = size_of_rows(0x19, groups) as u128;
+    ids + roots + groups
 }
 
 // The child of a blob.
@@ -251,19 +129,19 @@ fn body_weight(body: &Body) -> u128
             manifests,
             cells,
             revisions,
-        } => {
-            manifest_maps_weight(manifests.as_slice())
-                + cell_maps_weight(cells.as_slice())
-                + revision_maps_weight(revisions.as_slice())
-        }
-        Body::Storage { schema, roots } => storage_weight(*schema, roots.as_slice()),
+        } => index_weight(
+            manifests.as_slice(),
+            cells.as_slice(),
+            revisions.as_slice(),
+        ),
+        Body::Storage { schema, roots } => storage_weight(schema, roots.as_slice()),
         Body::Cell { current } => current_weight(current),
         Body::Revision {
             id,
             base,
             roots,
             groups,
-        } => revision_weight(id, base, roots.as_slice(), groups.as_slice()),
+        } => revision_weight(&(*id, *base), roots.as_slice(), groups.as_slice()),
         Body::Group { objects } => group_weight(objects.as_slice()),
         Body::Blob { bytes } => blob_weight(bytes.as_slice()),
     }

@@ -7,6 +7,7 @@
 //! - `sub_response`: reading a sub-response
 //! - `read`: reading a response
 //! - `write_reply`: writing what a sub-response holds
+//! - `room`: how much room a response takes
 //! - `write`: writing a response
 //! - `laws`: what holds of responses themselves
 #![tactic(auto)]
@@ -16,6 +17,7 @@ mod front;
 pub mod laws;
 mod read;
 mod reply;
+mod room;
 mod rows;
 mod sub_response;
 mod write;

@@ -5,6 +5,7 @@ ghost use Rattle.doc_model.specs.Responses.{response, failure, sub_response, pul
 ghost use Rattle.doc_model.specs.WrittenElements.{numbered_bytes};
 ghost use Rattle.wire_responses.specs.Forms.{HasForm};
 
+use crate::room::with_room;
 use crate::write_reply::{status_byte, write_error, write_reply};
 use compact_values::{Guid, NoMemory, Octets, Serial, write_compact};
 use data_elements::write_element;
@@ -107,7 +108,7 @@ pub fn write_cell_response(alloc: Global, answers: &Answers) -> Result<Octets, N
     requires { All (λ a. HasForm a.submitted) answers.now }
     ensures { IfOk result (λ bytes. bytes ≡ response answers.now) }
 {
-    let mut out = Octets::new(alloc);
+    let mut out = with_room(alloc, answers.as_slice())?;
     out.extend_from_slice(&FRONT)?;
     begin(&mut out, 0x62, true, &[0])?;
     write_package(&mut out, answers.as_slice())?;

@@ -1,12 +1,18 @@
-use Rattle.std.proofs.Common.{◌+◌, arith}
+use Rattle.std.proofs.Common.{arith}
 use Rattle.std.specs.List.{flat_map}
-use Rattle.doc_model.specs.WrittenElements.{revision_bytes, revision_root_bytes, group_reference_bytes}
-use Rattle.doc_model.proofs.SizeLemmas.{length_three, length_revision}
+use Rattle.wire_kinds.specs.Row.{row_bytes}
+use Rattle.doc_model.specs.ElementRows.{revision_manifest, revision_root, group_reference}
+use Rattle.doc_model.proofs.SizeLemmas.{length_three}
+use Rattle.doc_model.proofs.SizeBounds.{exact-row, exact-rows, few-revision, few-revision-root, few-group-reference}
 use Rattle.doc_model.proofs.weighing.revision_weight.Goals as goal
 
 pub returns-clause-length : goal.returns-clause-length
 returns-clause-length c =
-    let id = c.args.id.now in
-    let base = c.args.base.now in
-    let head = length_revision id base (c.exguid_size.result + c.exguid_size-2.result) c.started_size.result (omega (arith, c.exguid_size.ensures.length, c.exguid_size-2.ensures.length)) c.started_size.ensures in
-    omega (arith, length_three (revision_bytes id base) (flat_map revision_root_bytes c.args.roots.now) (flat_map group_reference_bytes c.args.groups.now), head, c.revision_roots_weight.ensures.length, c.group_references_weight.ensures.length)
+    let ids = c.args.ids.now in
+    let roots = c.args.roots.now in
+    let groups = c.args.groups.now in
+    let all = c.requires in
+    let x = exact-row revision_manifest ids c.row_size-ids.result (omega (arith, few-revision ids)) c.row_size-ids.ensures in
+    let y = exact-rows revision_root roots c.size_of_rows-roots.result (λ v. omega (arith, few-revision-root v)) (omega (arith, all)) c.size_of_rows-roots.ensures in
+    let z = exact-rows group_reference groups c.size_of_rows-groups.result (λ v. omega (arith, few-group-reference v)) (omega (arith, all)) c.size_of_rows-groups.ensures in
+    omega (arith, length_three (row_bytes revision_manifest ids) (flat_map (row_bytes revision_root) roots) (flat_map (row_bytes group_reference) groups), x, y, z)

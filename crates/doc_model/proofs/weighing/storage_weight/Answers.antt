@@ -1,10 +1,13 @@
 use Rattle.std.proofs.Common.{arith}
 use Rattle.std.specs.List.{flat_map}
 use Rattle.std.proofs.lemmas.List.{length-append}
-use Rattle.doc_model.specs.WrittenElements.{schema_bytes, root_bytes}
-use Rattle.doc_model.proofs.SizeLemmas.{length_schema}
+use Rattle.wire_kinds.specs.Row.{row_bytes}
+use Rattle.doc_model.specs.ElementRows.{schema_guid, manifest_root}
+use Rattle.doc_model.proofs.SizeBounds.{exact-row, exact-rows, few-schema, few-root}
 use Rattle.doc_model.proofs.weighing.storage_weight.Goals as goal
 
 pub returns-clause-length : goal.returns-clause-length
 returns-clause-length c =
-    omega (arith, length-append (schema_bytes c.args.schema) (flat_map root_bytes c.args.roots.now), length_schema c.args.schema, c.started_size.ensures, c.roots_weight.ensures.length)
+    let head = exact-row schema_guid c.args.schema.now c.row_size.result (omega (arith, few-schema c.args.schema.now)) c.row_size.ensures in
+    let rows = exact-rows manifest_root c.args.roots.now c.size_of_rows.result (λ r. omega (arith, few-root r)) c.requires c.size_of_rows.ensures in
+    omega (arith, length-append (row_bytes schema_guid c.args.schema.now) (flat_map (row_bytes manifest_root) c.args.roots.now), head, rows)
