@@ -198,6 +198,9 @@ impl<D: Disk> Reading<D> {
         ensures ended { IfOk result (λ got. got ≡ Got.End → self.new.ended ≡ true) }
         ensures same { Untouched D.seen D.may_leave D.moment D.left_since self.old.disk self.new.disk }
         ensures guid { self.new.guid ≡ self.old.guid }
+        // So a reader that goes on comes to an end.
+        ensures total { self.new.total ≡ self.old.total }
+        ensures grows { IfOk result (λ got. got ≡ Got.Body → self.old.at < self.new.at) }
         ensures cause { HasDiskCause (D.faults self.old.disk) (D.faults self.new.disk) result }
         ensures not_full { IsErrOf result JournalFault.Full → ⊥ }
     {
@@ -239,6 +242,13 @@ impl<D: Disk> Reading<D> {
             count: self.count,
             settled: false,
         }
+    }
+
+    /// The place of the next gate, where the body that was given last ends.
+    pub fn at(&self) -> u64
+        ensures { result ≡ self.now.at }
+    {
+        self.at
     }
 
     /// The GUID of the header.

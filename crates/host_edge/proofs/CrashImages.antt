@@ -1,5 +1,5 @@
 -- An image that a crash may leave, taken from the record of a disk's calls.
-use Rattle.std.proofs.Common.{◌≡◌, ◌⊎◌, ℕ, zero, suc, ◌+◌, ◌-◌, ◌<◌, ◌≤◌, min, List, [], ◌∷◌, ◌++◌, length, length-drop, take, drop, refl, sym, ◌∙◌, ap, subst, arith, append_assoc, max, inl, inr}
+use Rattle.std.proofs.Common.{◌≡◌, ℕ, zero, suc, ◌+◌, ◌-◌, ◌≤◌, min, List, [], ◌∷◌, ◌++◌, length, length-drop, take, drop, refl, sym, ◌∙◌, ap, subst, arith, append_assoc, max, inr}
 use Rattle.std.proofs.lemmas.Grind.{common_steps}
 use Rattle.std.proofs.lemmas.List.{append-nil, take_all}
 use lib.Seq.{drop-drop}
@@ -8,6 +8,7 @@ use Rattle.host_edge.specs.Disks.{written, Torn}
 use Rattle.host_edge.specs.MemDisks.{Event, Nothing, Wrote, Synced, events, spent, event_of, size_of, read_after, images_after, Leaves, read_of, image_of}
 use Rattle.host_edge.specs.declared.disk_call.DiskCall.{DiskCall}
 use Rattle.host_edge.specs.declared.disk_call.DiskCall.TheVariants.{Asked, Write, Sync}
+use Rattle.host_edge.specs.MemDiskLaws.{torn_nothing}
 use Rattle.host_edge.proofs.MemDiskSteps.{read_of-more, image_of-more}
 
 -- Some calls are done, and these are left, with the bytes that are still to be taken.
@@ -82,36 +83,35 @@ replayed_at all calls at size call bytes seen image seen_now image_now r here si
     subst (λ (l : List ℕ). Replayed all (drop (at + 1) calls) l seen_now image_now) same now
 
 -- fewer bytes, written at the same place
-part_before : (place : ℕ) (part old : List ℕ) → take (min place (length old)) (written place part old) ≡ take place old
-part_before place part old = grind (arith, common_steps)
+module _ (place byte : ℕ) (more old : List ℕ) where
+  abbrev part : List ℕ
+  part = byte ∷ more
 
-part_after : (place : ℕ) (bytes part old : List ℕ) → length part ≤ length bytes → drop (place + length bytes) (written place part old) ≡ drop (place + length bytes) old
-part_after place bytes part old le =
-    let xs = take place old ++ replicate (place - length old) 0 ++ part in
-    let long : length xs ≡ place + length part = length_before place part old in
-    drop_past xs (drop (place + length part) old) (place + length bytes) (omega (arith, long, le))
-    ∙ drop-drop (place + length bytes - length xs) (place + length part) old
-    ∙ ap (λ (k : ℕ). drop k old) (omega (arith, long, le))
+  part_before : take (min place (length old)) (written place part old) ≡ take place old
+  part_before = grind (arith, common_steps)
 
-part_long : (place : ℕ) (part old : List ℕ) → length (written place part old) ≡ max (length old) (place + length part)
-part_long place part old = grind (arith, common_steps)
+  part_after : (bytes : List ℕ) → length part ≤ length bytes → drop (place + length bytes) (written place part old) ≡ drop (place + length bytes) old
+  part_after bytes le =
+      let xs = take place old ++ replicate (place - length old) 0 ++ part in
+      let long : length xs ≡ place + length part = length_before place part old in
+      drop_past xs (drop (place + length part) old) (place + length bytes) (omega (arith, long, le))
+      ∙ drop-drop (place + length bytes - length xs) (place + length part) old
+      ∙ ap (λ (k : ℕ). drop k old) (omega (arith, long, le))
 
-part_none : (place : ℕ) (old : List ℕ) → place < length old → written place [] old ≡ old
-part_none place old le = grind (arith, common_steps, le)
+  part_long : length (written place part old) ≡ max (length old) (place + length part)
+  part_long = grind (arith, common_steps)
 
 -- a front of the bytes may be all that was written of them
 pub front_torn : (place n : ℕ) (bytes old : List ℕ) → n ≤ length bytes → Torn place bytes old (written place (take n bytes) old)
-front_torn place n bytes old le =
-    let short : length (take n bytes) ≤ length bytes = grind (arith, common_steps, le) in
+front_torn place zero bytes old le = torn_nothing place bytes old
+front_torn place (suc n) [] old le = absurd (omega (arith, le))
+front_torn place (suc n) (byte ∷ more) old le =
+    let short : length (take n more) ≤ length more = grind (arith, common_steps) in
     record {
-      before = part_before place (take n bytes) old;
-      after = part_after place bytes (take n bytes) old short;
-      no_shorter = omega (arith, part_long place (take n bytes) old);
-      no_longer = omega (arith, part_long place (take n bytes) old, short);
-      one = λ long inside. none_or_all n long inside le;
+      before = part_before place byte (take n more) old;
+      after = part_after place byte (take n more) old (byte ∷ more) (omega (arith, short));
+      no_shorter = omega (arith, part_long place byte (take n more) old);
+      no_longer = omega (arith, part_long place byte (take n more) old, short);
+      none = λ empty. absurd (omega (arith, empty));
+      one = λ long inside. inr (ap (λ (l : List ℕ). written place (byte ∷ l) old) (take_all n more (omega (arith, long))));
     }
-  where
-    none_or_all : (n : ℕ) → length bytes ≡ 1 → place < length old → n ≤ length bytes
-        → (written place (take n bytes) old ≡ old) ⊎ (written place (take n bytes) old ≡ written place bytes old)
-    none_or_all zero long inside le = inl (part_none place old inside)
-    none_or_all (suc n) long inside le = inr (ap (λ (l : List ℕ). written place l old) (take_all (suc n) bytes (omega (arith, long))))

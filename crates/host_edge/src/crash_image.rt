@@ -102,21 +102,20 @@ fn replay_write(
 }
 
 // Writes the first bytes alone, or nothing.
-#[tactic(auto, using(crate::proofs::CrashImages::front_torn, crate::specs::MemDiskLaws::torn_nothing))]
+#[tactic(auto, using(crate::proofs::CrashImages::front_torn))]
 fn lay_front(bytes: &mut Vec<u8>, place: u64, new: &[u8], count: usize) -> Result<(), NoMemory>
     ensures { OnOk result (Torn place new.now bytes.old.items bytes.new.items) }
 {
-    let count = count.min(new.len());
-    if count == 0 {
-        return Ok(());
-    }
-    lay(bytes, place, &new[..count])
+    lay(bytes, place, &new[..count.min(new.len())])
 }
 
 // Writes over what is there, and past the end.
 fn lay(bytes: &mut Vec<u8>, place: u64, new: &[u8]) -> Result<(), NoMemory>
     ensures { OnOk result (bytes.new.items ≡ written place new.now bytes.old.items) }
 {
+    if new.is_empty() {
+        return Ok(());
+    }
     let Some(end) = place.checked_add(new.len() as u64) else {
         return Err(NoMemory);
     };

@@ -6,10 +6,10 @@ use Rattle.turn_board.specs.declared.board.Board.{Board}
 use Rattle.turn_board.specs.declared.seat.Seat.{Seat}
 use Rattle.turn_board.specs.Seats.{view, IsSeatOf, IsIdle}
 
--- a call of this caller was made. It stands in the changes where it was answered and moved
-abbrev pub HasCalled : ℕ → ℕ → List (ℕ × ℕ) → List (ℕ × ℕ) → Option (Last ℕ ℕ) → Type 0
-HasCalled caller by old new last = (answered : Bool) × (moved : Bool)
-    × (last ≡ Some (record { caller = caller; call = by; answer = 0; answered = answered; moved = moved }))
+-- A call of this caller was made, and its answer is the number of failures so far. It stands in the changes where it was answered and moved
+abbrev pub HasCalled : ℕ → ℕ → List (ℕ × ℕ) → List (ℕ × ℕ) → ℕ → Option (Last ℕ ℕ) → Type 0
+HasCalled caller by old new failures last = (answered : Bool) × (moved : Bool)
+    × (last ≡ Some (record { caller = caller; call = by; answer = failures; answered = answered; moved = moved }))
     × (new ≡ old ++ (if answered && moved then (caller, by) ∷ [] else []))
 
 module _ {S C A R : Type 0} {g : Ghosts S C A R} where

@@ -12,5 +12,5 @@ returns c =
     take_at c.put.new.bytes (drop (length c.put.new.bytes) c.put_zeros.new.bytes.items) c.put_zeros.new.bytes.len same
     ∙ c.put.ensures
     ∙ ap (λ (l : List ℕ). take c.args.place l ++ c.args.new.now ++ drop (c.args.place + length c.args.new.now) l) c.as_mut_slice.ensures.value
-    ∙ written_over c.args.bytes.now.items c.args.new.now c.put_zeros.new.bytes.items c.args.place
+    ∙ written_over c.args.bytes.now.items c.args.new.now c.put_zeros.new.bytes.items c.args.place (grind (arith, common_steps, c.if-is_empty.ensures))
     (c.in_ok-put_zeros.ensures ∙ ap (λ (n : ℕ). c.args.bytes.now.items ++ replicate (n - length c.args.bytes.now.items) 0) end)
