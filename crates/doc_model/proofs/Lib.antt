@@ -1,9 +1,12 @@
 pub mod SizeLemmas
 pub mod NodeLaws
 pub mod Unmoved
+pub mod Refusals
 pub mod OnStored
 pub mod EachItem
 pub mod Firsts
+pub mod Once
+pub mod NamedOnce
 pub mod Agree
 pub mod Added
 pub mod Download
@@ -40,4 +43,5 @@ pub mod OneThread
 pub mod FitsStands
 pub mod Growing
 pub mod Attempts
+pub mod FitsTried
 pub mod HistoryRows
