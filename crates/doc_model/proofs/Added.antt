@@ -1,5 +1,5 @@
 -- Elements that are added later change nothing of an index of which all is there.
-use Rattle.std.proofs.Common.{◌≡◌, refl, Bool, true, false, cond, List, [], ◌∷◌, ◌++◌, map, flat_map, take, Option, Some, None, option_map, option_and_then, unwrap_or}
+use Rattle.std.proofs.Common.{◌≡◌, refl, Bool, true, false, cond, List, [], ◌∷◌, ◌++◌, map, take, Option, Some, None, option_map, option_and_then, unwrap_or}
 use Rattle.std.specs.Prelude.{is_some}
 use Rattle.std.specs.List.{AllByRecursion as Each}
 use Rattle.compact_values.specs.declared.ids.ExGuid.{ExGuid}
@@ -10,7 +10,7 @@ use Rattle.doc_model.specs.declared.element.Name.{Name}
 use Rattle.doc_model.specs.declared.element.RevisionMap.{RevisionMap}
 use Rattle.doc_model.specs.Finding.{Mappings, find_element, said, as_index, as_storage, as_cell, as_group, as_blob, as_revision}
 use Rattle.doc_model.specs.Laws.{AllNamed, NamesStay, ChainStays, FileStays}
-use Rattle.doc_model.specs.Reached.{names, names_below, mapping_of, revision_name, storage_name, cell_name, group_name, blob_name, named_revisions, groups_of, blobs_of, cells_of, currents_of}
+use Rattle.doc_model.specs.Reached.{names, names_below, mapping_of, revision_name, storage_name, cell_name, group_name, blob_name, named_revisions, named_groups, named_blobs, cells_of, currents_of}
 use Rattle.doc_model.proofs.Agree.{names-same, root-chain-same, file-same}
 use Rattle.doc_model.proofs.EachItem.{each-as, each-append, each-both, all-each}
 
@@ -51,12 +51,12 @@ module _ (added : List Element) where
   below-there : (maps : Mappings) → Each IsThere (names_below added maps)
   below-there maps =
       let rs = named_revisions added maps.revisions (currents_of added maps) in
-      let gs = flat_map (groups_of added maps.revisions) rs in
+      let gs = named_groups added maps.revisions rs in
       let storage = map (storage_name added) (take 1 maps.manifests) in
       let cells = map (cell_name added) (cells_of maps) in
       let revisions = map (revision_name added maps.revisions) rs in
       let groups = map (group_name added) gs in
-      let bs = flat_map (blobs_of added) gs in
+      let bs = named_blobs added gs in
       each-append IsThere (storage ++ cells ++ revisions ++ groups) (map (blob_name added) bs)
       (each-append IsThere (storage ++ cells ++ revisions) groups
       (each-append IsThere (storage ++ cells) revisions

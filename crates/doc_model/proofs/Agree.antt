@@ -20,9 +20,10 @@ use Rattle.doc_model.specs.declared.element.Content.TheVariants.{Inline, Apart}
 use Rattle.doc_model.specs.FileObjects.{root_file}
 use Rattle.doc_model.specs.Files.{current_revision, root_chain, objects_of, own_bytes, as_file_object, file_objects, root_object, file_of_chain, file, group_objects, revision_objects}
 use Rattle.doc_model.specs.Finding.{first, find_element, said, firsts, Manifest, Mappings, as_index, as_storage, as_cell, as_revision, as_group, as_blob}
-use Rattle.doc_model.specs.Reached.{name, mapping_of, manifest_of, base_of, named_along, named_revisions, reached, reached_from, enough, longest, chain, chains_end, revision_name, cell_name, storage_name, group_name, blob_name, groups_of, groups_by, blobs_of, blob_of, cells_of, same_cells, current_of, currents_of, names, names_below}
+use Rattle.doc_model.specs.Reached.{name, mapping_of, manifest_of, base_of, named_along, named_revisions, named_groups, named_blobs, each_once, reached, reached_from, enough, longest, chain, chains_end, revision_name, cell_name, storage_name, group_name, blob_name, groups_of, groups_by, blobs_of, blob_of, cells_of, same_cells, current_of, currents_of, names, names_below}
 use Rattle.doc_model.proofs.EachItem.{each-front, each-back, each-map, each-flat, each-flat-map, each-both, each-as, map-same, flat-same, all-same}
 use Rattle.doc_model.proofs.Firsts.{first-kept}
+use Rattle.doc_model.proofs.Once.{once-each}
 
 pub first-cell : (Q : CellMap → Type 0) (key : CellId) (cells : List CellMap) (c : CellMap) → Each Q (firsts same_cells cells)
     → find (λ m. same_cell m.cell key) cells ≡ Some c → Q c
@@ -148,10 +149,10 @@ module _ (a b : List Element) where
     rs = named_revisions a maps.revisions (currents_of a maps)
 
     abbrev gs : List ExGuid
-    gs = flat_map (groups_of a maps.revisions) rs
+    gs = named_groups a maps.revisions rs
 
     abbrev bs : List ExGuid
-    bs = flat_map (blobs_of a) gs
+    bs = named_blobs a gs
 
     abbrev storage : List Name
     storage = map (storage_name a) (take 1 maps.manifests)
@@ -196,15 +197,19 @@ module _ (a b : List Element) where
       blobs_same = each-map N (blob_name a) bs (each-back N (storage ++ cells ++ revisions ++ groups) blobs h)
 
       groups_same : Each SameGroup gs
-      groups_same = each-both Same (λ g. Each Same (blobs_of a g)) gs group_ids_same (each-flat Same (blobs_of a) gs blobs_same)
+      groups_same = each-both Same (λ g. Each Same (blobs_of a g)) gs group_ids_same (each-flat Same (blobs_of a) gs (once-each Same (flat_map (blobs_of a) gs) blobs_same))
+
+      abbrev GroupsAt : ExGuid → Type 0
+      GroupsAt x = Each SameGroup (groups_of a maps.revisions x)
 
       along_each : Each (λ r. Each (SameRevision maps.revisions) (along r)) (currents_of a maps)
-      along_each = each-flat (SameRevision maps.revisions) along (currents_of a maps) revisions_same
+      along_each = each-flat (SameRevision maps.revisions) along (currents_of a maps) (once-each (SameRevision maps.revisions) (flat_map along (currents_of a maps)) revisions_same)
 
       along_same : Each (SameAlong maps) (currents_of a maps)
       along_same = each-both (λ r. Each (SameRevision maps.revisions) (along r)) (λ r. Each (λ x. Each SameGroup (groups_of a maps.revisions x)) (along r)) (currents_of a maps)
           along_each
-          (each-flat (λ x. Each SameGroup (groups_of a maps.revisions x)) along (currents_of a maps) (each-flat SameGroup (groups_of a maps.revisions) rs groups_same))
+          (each-flat GroupsAt along (currents_of a maps) (once-each GroupsAt (flat_map along (currents_of a maps))
+          (each-flat SameGroup (groups_of a maps.revisions) rs (once-each SameGroup (flat_map (groups_of a maps.revisions) rs) groups_same))))
 
       cells_same : Each (SameCell maps) (cells_of maps)
       cells_same = each-both (λ c. Same c.target) (λ c. SameAlong maps (current_of a c)) (cells_of maps)
@@ -218,21 +223,21 @@ module _ (a b : List Element) where
       rs_same : named_revisions b maps.revisions (currents_of b maps) ≡ rs
       rs_same =
           ap (named_revisions b maps.revisions) currents_same
-          ∙ flat-same (named_along b maps.revisions (enough maps.revisions)) along (currents_of a maps)
+          ∙ ap each_once (flat-same (named_along b maps.revisions (enough maps.revisions)) along (currents_of a maps)
           (each-as (λ r. Each (SameRevision maps.revisions) (along r)) (λ r. named_along b maps.revisions (enough maps.revisions) r ≡ along r) (currents_of a maps)
-          (λ r s. along-same maps.revisions (enough maps.revisions) r s) along_each)
+          (λ r s. along-same maps.revisions (enough maps.revisions) r s) along_each))
 
-      gs_same : flat_map (groups_of b maps.revisions) (named_revisions b maps.revisions (currents_of b maps)) ≡ gs
+      gs_same : named_groups b maps.revisions (named_revisions b maps.revisions (currents_of b maps)) ≡ gs
       gs_same =
-          ap (flat_map (groups_of b maps.revisions)) rs_same
-          ∙ flat-same (groups_of b maps.revisions) (groups_of a maps.revisions) rs
-          (each-as (SameRevision maps.revisions) (λ r. groups_of b maps.revisions r ≡ groups_of a maps.revisions r) rs (λ r s. ap groups_by s) revisions_same)
+          ap (named_groups b maps.revisions) rs_same
+          ∙ ap each_once (flat-same (groups_of b maps.revisions) (groups_of a maps.revisions) rs
+          (each-as (SameRevision maps.revisions) (λ r. groups_of b maps.revisions r ≡ groups_of a maps.revisions r) rs (λ r s. ap groups_by s) revisions_same))
 
-      bs_same : (gs' : List ExGuid) → gs' ≡ gs → flat_map (blobs_of b) gs' ≡ bs
+      bs_same : (gs' : List ExGuid) → gs' ≡ gs → named_blobs b gs' ≡ bs
       bs_same gs' e =
-          ap (flat_map (blobs_of b)) e
-          ∙ flat-same (blobs_of b) (blobs_of a) gs
-          (each-as Same (λ g. blobs_of b g ≡ blobs_of a g) gs (λ g s. ap (λ o. flat_map (λ x. blob_of x.content) (unwrap_or o [])) (said-same as_group g s)) group_ids_same)
+          ap (named_blobs b) e
+          ∙ ap each_once (flat-same (blobs_of b) (blobs_of a) gs
+          (each-as Same (λ g. blobs_of b g ≡ blobs_of a g) gs (λ g s. ap (λ o. flat_map (λ x. blob_of x.content) (unwrap_or o [])) (said-same as_group g s)) group_ids_same))
 
       named_same : {X : Type 0} (k : Body → Option X) (id : ExGuid) → Same id → name id (said k b id) ≡ name id (said k a id)
       named_same k id s = ap (λ o. name id o) (said-same k id s)
@@ -248,11 +253,11 @@ module _ (a b : List Element) where
           ∙ map-same (revision_name b maps.revisions) (revision_name a maps.revisions) rs
           (each-as (SameRevision maps.revisions) (λ x. revision_name b maps.revisions x ≡ revision_name a maps.revisions x) rs
           (λ x t. ap (λ o. name (unwrap_or (option_map (λ m. m.target) (mapping_of maps.revisions x)) x) o) t) revisions_same) in
-          let g : map (group_name b) (flat_map (groups_of b maps.revisions) (named_revisions b maps.revisions (currents_of b maps))) ≡ groups =
+          let g : map (group_name b) (named_groups b maps.revisions (named_revisions b maps.revisions (currents_of b maps))) ≡ groups =
           ap (map (group_name b)) gs_same
           ∙ map-same (group_name b) (group_name a) gs (each-as Same (λ x. group_name b x ≡ group_name a x) gs (λ x t. named_same as_group x t) group_ids_same) in
-          let w : map (blob_name b) (flat_map (blobs_of b) (flat_map (groups_of b maps.revisions) (named_revisions b maps.revisions (currents_of b maps)))) ≡ blobs =
-          ap (map (blob_name b)) (bs_same (flat_map (groups_of b maps.revisions) (named_revisions b maps.revisions (currents_of b maps))) gs_same)
+          let w : map (blob_name b) (named_blobs b (named_groups b maps.revisions (named_revisions b maps.revisions (currents_of b maps)))) ≡ blobs =
+          ap (map (blob_name b)) (bs_same (named_groups b maps.revisions (named_revisions b maps.revisions (currents_of b maps))) gs_same)
           ∙ map-same (blob_name b) (blob_name a) bs (each-as Same (λ x. blob_name b x ≡ blob_name a x) bs (λ x t. named_same as_blob x t) blobs_same) in
           five s c r g w
         where

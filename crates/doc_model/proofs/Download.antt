@@ -1,5 +1,5 @@
 -- What a client that knows nothing is sent has the document's file.
-use Rattle.std.proofs.Common.{◌≡◌, ◌≢◌, ℕ, ◌+◌, ◌-◌, refl, sym, ◌∙◌, ap, Bool, true, false, ◌&&◌, ◌||◌, cond, List, [], ◌∷◌, map, filter, find, length, Some}
+use Rattle.std.proofs.Common.{◌≡◌, ◌≢◌, ℕ, ◌+◌, ◌-◌, refl, sym, ◌∙◌, ap, Bool, true, false, ◌&&◌, ◌||◌, cond, List, [], ◌∷◌, map, filter, find, length, Some, unwrap_or}
 use Rattle.std.specs.List.{AllByRecursion as Each}
 use Rattle.std.proofs.lemmas.Bool.{false≢true}
 use Rattle.compact_values.specs.declared.guid.Guid.{Guid}
@@ -11,11 +11,13 @@ use Rattle.doc_model.specs.declared.element.Name.{Name}
 use Rattle.doc_model.specs.declared.doc.Commit.{Commit}
 use Rattle.doc_model.specs.Finding.{find_element, numbered_from}
 use Rattle.doc_model.specs.Files.{file}
-use Rattle.doc_model.specs.Laws.{DownloadsTheFile, DownloadsWhatIsReached, DownloadsNothing}
+use Rattle.doc_model.specs.Laws.{DownloadsTheFile, DownloadsWhatIsReached, DownloadsNothing, ReadsTheFile}
 use Rattle.doc_model.specs.Pulls.{stored_index, named_ids, lacking, is_lacking}
 use Rattle.doc_model.specs.Reached.{is_among, names, reached, reached_from}
 use Rattle.doc_model.specs.declared.doc.Doc.{Doc}
 use Rattle.doc_model.specs.Sound.{IsSoundCommit}
+use Rattle.doc_model.specs.Versions.{last_file}
+use Rattle.doc_model.specs.declared.reply.Reply.TheVariants.{File}
 use Rattle.std.specs.Prelude.{is_some}
 use Rattle.doc_model.proofs.Agree.{file-same}
 use Rattle.doc_model.proofs.LastCommit.{some-commits, last-commit, All-slice}
@@ -97,4 +99,19 @@ downloads-nothing doc none =
     let e : named_ids doc.added doc.commits ≡ [] = ap (λ (cs : List Commit). named_ids doc.added cs) none in (
       ap (λ (cs : List Commit). stored_index cs) none,
       ap (λ ids. map (λ x. x.element) (lacking doc.guid [] ids doc.added)) e ∙ ap (map (λ x. x.element)) (none-lacking doc.guid 1 doc.added),
+      ap (λ (cs : List Commit). last_file doc.added cs) none,
     )
+
+-- who reads the file reads that of a download
+last-file : (doc : Doc) (cs : List Commit) → doc.commits ≡ cs
+    → last_file doc.added doc.commits ≡ unwrap_or (file (map (λ x. x.element) (lacking doc.guid [] (named_ids doc.added doc.commits) doc.added)) (stored_index doc.commits)) []
+last-file doc [] e =
+    let none = downloads-nothing doc e in
+    none.2 ∙ sym (ap (λ (es : List Element). unwrap_or (file es (stored_index doc.commits)) []) none.1)
+last-file doc (x ∷ xs) e =
+    let some : doc.commits ≢ [] = λ h. cc in
+    ap (λ (b : Bool). cond b [] (unwrap_or (file doc.added (stored_index doc.commits)) [])) (some-commits doc.commits some)
+    ∙ sym (ap (λ o. unwrap_or o []) (downloads doc some))
+
+pub reads-the-file : ReadsTheFile
+reads-the-file doc moment user = ap (λ (bytes : List ℕ). File bytes) (last-file doc doc.commits refl)

@@ -52,12 +52,13 @@ moved_calls-append moved xs ys =
     ∙ map-append (λ (z : Placed). z.call) (filter moved xs) (filter moved ys)
 
 -- where two say the same of each call
-module _ (moved moved' : Placed → Bool) where
-  same-order : (from : ℕ) (mine : List Placed) → Each (λ x. moved' x ≡ moved x) mine → GoOn moved from mine → GoOn moved' from mine
-  same-order from [] e g = tt
-  same-order from (x ∷ xs) e g =
-      (g.0, subst (λ (b : Bool). GoOn moved' (cond b (x.at + 1) x.at) xs) (sym e.0) (same-order (cond (moved x) (x.at + 1) x.at) xs e.1 g.1))
+pub same-order : {X : Type 0} (at : X → ℕ) (moved moved' : X → Bool) (from : ℕ) (mine : List X) → Each (λ x. moved' x ≡ moved x) mine → GoOn at moved from mine
+    → GoOn at moved' from mine
+same-order at moved moved' from [] e g = tt
+same-order at moved moved' from (x ∷ xs) e g =
+    (g.0, subst (λ (b : Bool). GoOn at moved' (cond b (at x + 1) (at x)) xs) (sym e.0) (same-order at moved moved' (cond (moved x) (at x + 1) (at x)) xs e.1 g.1))
 
+module _ (moved moved' : Placed → Bool) where
   same-moved : (mine : List Placed) → Each (λ x. moved' x ≡ moved x) mine → moved_calls moved' mine ≡ moved_calls moved mine
   same-moved [] e = refl
   same-moved (x ∷ xs) e = at (moved' x) (moved x) e.0 (same-moved xs e.1)
@@ -70,22 +71,22 @@ module _ (moved moved' : Placed → Bool) where
       at false false e ih = ih
 
 -- one more call goes on from calls that end before it
-next-order : (moved : Placed → Bool) (from : ℕ) (mine : List Placed) (x : Placed) → Each (λ y. cond (moved y) (y.at + 1) y.at ≤ x.at) mine → from ≤ x.at
-    → GoOn moved from mine → GoOn moved from (mine ++ x ∷ [])
-next-order moved from [] x e le g = (le, tt)
-next-order moved from (y ∷ ys) x e le g = (g.0, next-order moved (cond (moved y) (y.at + 1) y.at) ys x e.1 e.0 g.1)
+pub next-order : {X : Type 0} (at : X → ℕ) (moved : X → Bool) (from : ℕ) (mine : List X) (x : X) → Each (λ y. cond (moved y) (at y + 1) (at y) ≤ at x) mine → from ≤ at x
+    → GoOn at moved from mine → GoOn at moved from (mine ++ x ∷ [])
+next-order at moved from [] x e le g = (le, tt)
+next-order at moved from (y ∷ ys) x e le g = (g.0, next-order at moved (cond (moved y) (at y + 1) (at y)) ys x e.1 e.0 g.1)
 
 -- all that calls which stand in a history are in a longer one, but for the changes
-record AreIn (doc : Doc) (history more : History) (n : ℕ) (mine : List Placed) : Type 0 where
+pub record AreIn (doc : Doc) (history more : History) (n : ℕ) (mine : List Placed) : Type 0 where
   pub within : All (λ x. x.at ≤ length (history ++ more)) mine
   pub replies : All (λ x. x.reply ≡ (turn_at doc (history ++ more) x.at x.call).reply) mine
   pub held : All (λ x. moves doc (history ++ more) x ≡ true → slice_get (history ++ more) x.at ≡ Some (n, x.call)) mine
-  pub order : GoOn (moves doc (history ++ more)) 0 mine
+  pub order : GoOn (λ x. x.at) (moves doc (history ++ more)) 0 mine
   pub changes : moved_calls (moves doc (history ++ more)) mine ≡ calls_by n history
   pub before_end : Each (λ x. cond (moves doc (history ++ more) x) (x.at + 1) x.at ≤ length history) mine
 
 module _ (doc : Doc) (history more : History) (n : ℕ) (mine : List Placed) (s : Stands doc history n mine) where
-  same-turns : All (λ x. turn_at doc (history ++ more) x.at x.call ≡ turn_at doc history x.at x.call) mine
+  pub same-turns : All (λ x. turn_at doc (history ++ more) x.at x.call ≡ turn_at doc history x.at x.call) mine
   same-turns k d lt = let x = get_or mine k d in turn-longer doc history more x.at x.call (s.within k d lt)
 
   same-moves : Each (λ x. moves doc (history ++ more) x ≡ moves doc history x) mine
@@ -98,14 +99,14 @@ module _ (doc : Doc) (history more : History) (n : ℕ) (mine : List Placed) (s 
   ends x true m e le h = let lt = slice_get_within history x.at (n, x.call) (h (sym e ∙ m)) in omega arith
   ends x false m e le h = le
 
-  are-in : AreIn doc history more n mine
+  pub are-in : AreIn doc history more n mine
   are-in = record {
     within = λ k d lt. let le = s.within k d lt in let more_long = length-append history more in omega arith;
     replies = λ k d lt. s.replies k d lt ∙ sym (ap (λ (t : Turn). t.reply) (same-turns k d lt));
     held = λ k d lt m.
         let x = get_or mine k d in
         slice_get-longer history more x.at (n, x.call) (s.held k d lt (sym (ap (λ (t : Turn). t.moved) (same-turns k d lt)) ∙ m));
-    order = same-order (moves doc history) (moves doc (history ++ more)) 0 mine same-moves s.order;
+    order = same-order (λ x. x.at) (moves doc history) (moves doc (history ++ more)) 0 mine same-moves s.order;
     changes = same-moved (moves doc history) (moves doc (history ++ more)) mine same-moves ∙ s.changes;
     before_end = recursion_from_All (λ x. cond (moves doc (history ++ more) x) (x.at + 1) x.at ≤ length history) mine
         (λ k d lt. let x = get_or mine k d in ends x (moves doc (history ++ more) x) refl (ap (λ (t : Turn). t.moved) (same-turns k d lt)) (s.within k d lt) (s.held k d lt));
@@ -149,7 +150,7 @@ module _ (doc : Doc) (history : History) (n : ℕ) (x : Placed) (here : x.at ≡
     replies = All-push (λ y. y.reply ≡ (turn_at doc (history ++ more) y.at y.call).reply) mine x there.replies (r ∙ sym (ap (λ (t : Turn). t.reply) turn-there));
     held = All-push (λ y. moves doc (history ++ more) y ≡ true → slice_get (history ++ more) y.at ≡ Some (n, y.call)) mine x there.held
         (λ m. held-there turn.moved (sym (ap (λ (t : Turn). t.moved) turn-there) ∙ m));
-    order = next-order (moves doc (history ++ more)) 0 mine x
+    order = next-order (λ x. x.at) (moves doc (history ++ more)) 0 mine x
         (subst (λ (k : ℕ). Each (λ y. cond (moves doc (history ++ more) y) (y.at + 1) y.at ≤ k) mine) (sym here) there.before_end) (omega arith) there.order;
     changes = moved_calls-append (moves doc (history ++ more)) mine (x ∷ [])
         ∙ ap (λ (cs : List Call). cs ++ moved_calls (moves doc (history ++ more)) (x ∷ [])) there.changes

@@ -3,9 +3,12 @@ pub mod ShortRows
 pub mod SizeLemmas
 pub mod NodeLaws
 pub mod Unmoved
+pub mod Refusals
 pub mod OnStored
 pub mod EachItem
 pub mod Firsts
+pub mod Once
+pub mod NamedOnce
 pub mod Agree
 pub mod Added
 pub mod Download
@@ -42,4 +45,5 @@ pub mod OneThread
 pub mod FitsStands
 pub mod Growing
 pub mod Attempts
+pub mod FitsTried
 pub mod HistoryRows

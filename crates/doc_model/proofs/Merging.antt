@@ -8,8 +8,8 @@ use Rattle.doc_model.specs.Histories.{History, Placed, GoOn}
 use Rattle.doc_model.specs.HistoryLaws.{Ran, ran_by}
 
 -- the change of a history, as it runs
-abbrev pub changed : Doc → ℕ × Call → Ran
-changed d item = record { number = item.0; call = item.1; reply = (apply d item.1).reply }
+abbrev pub changed : ℕ → Doc → ℕ × Call → Ran
+changed k d item = record { at = k; number = item.0; call = item.1; reply = (apply d item.1).reply }
 
 module _ (moved : Placed → Bool) where
   -- those that stand at a place and don't move
@@ -29,7 +29,7 @@ module _ (moved : Placed → Bool) where
   still-moved k x mine m = cond-false (is_still k x) _ _ (and_right (x.at == k) (not (moved x)) (not_from_true (moved x) m))
 
   -- places that go on from here go on from before here, and behind the first one from its place
-  pub go-on-before : (from before : ℕ) (mine : List Placed) → before ≤ from → GoOn moved from mine → GoOn moved before mine
+  pub go-on-before : (from before : ℕ) (mine : List Placed) → before ≤ from → GoOn (λ x. x.at) moved from mine → GoOn (λ x. x.at) moved before mine
   go-on-before from before [] le h = tt
   go-on-before from before (x ∷ xs) le h = (omega (arith, h.0), h.1)
 
@@ -37,11 +37,11 @@ module _ (moved : Placed → Bool) where
   next-behind true at = omega arith
   next-behind false at = omega arith
 
-  pub go-on-behind : (from : ℕ) (x : Placed) (mine : List Placed) → GoOn moved from (x ∷ mine) → GoOn moved x.at mine
+  pub go-on-behind : (from : ℕ) (x : Placed) (mine : List Placed) → GoOn (λ x. x.at) moved from (x ∷ mine) → GoOn (λ x. x.at) moved x.at mine
   go-on-behind from x mine h = go-on-before (cond (moved x) (x.at + 1) x.at) x.at mine (next-behind (moved x) x.at) h.1
 
   -- before the first of them none stands
-  none-still : (k from : ℕ) (mine : List Placed) → k < from → GoOn moved from mine → still k mine ≡ []
+  none-still : (k from : ℕ) (mine : List Placed) → k < from → GoOn (λ x. x.at) moved from mine → still k mine ≡ []
   none-still k from [] lt h = refl
   none-still k from (x ∷ xs) lt h =
       let past : k < x.at = omega (arith, h.0) in
@@ -53,7 +53,7 @@ module _ (moved : Placed → Bool) where
     merged mine k d [] = map (ran_by n) (still k mine) ++ []
     merged mine k d (item ∷ rest) =
         map (ran_by n) (still k mine)
-        ++ (if item.0 == n then changed d item ∷ merged mine (suc k) (apply d item.1).doc rest else merged mine (suc k) (apply d item.1).doc rest)
+        ++ (if item.0 == n then changed k d item ∷ merged mine (suc k) (apply d item.1).doc rest else merged mine (suc k) (apply d item.1).doc rest)
 
     -- a call before the place is none of them
     merged-past : (x : Placed) (mine : List Placed) (k : ℕ) (d : Doc) (rest : History) → x.at < k → merged (x ∷ mine) k d rest ≡ merged mine k d rest
@@ -61,8 +61,8 @@ module _ (moved : Placed → Bool) where
     merged-past x mine k d (item ∷ rest) lt =
         let here = still-elsewhere k x mine (λ e. omega arith) in
         let there = merged-past x mine (suc k) (apply d item.1).doc rest (omega arith) in
-        ap (λ (xs : List Placed). map (ran_by n) xs ++ (if item.0 == n then changed d item ∷ merged (x ∷ mine) (suc k) (apply d item.1).doc rest else merged (x ∷ mine) (suc k) (apply d item.1).doc rest)) here
-        ∙ ap (λ (rs : List Ran). map (ran_by n) (still k mine) ++ (if item.0 == n then changed d item ∷ rs else rs)) there
+        ap (λ (xs : List Placed). map (ran_by n) xs ++ (if item.0 == n then changed k d item ∷ merged (x ∷ mine) (suc k) (apply d item.1).doc rest else merged (x ∷ mine) (suc k) (apply d item.1).doc rest)) here
+        ∙ ap (λ (rs : List Ran). map (ran_by n) (still k mine) ++ (if item.0 == n then changed k d item ∷ rs else rs)) there
 
     -- a call at the place that doesn't move is the first of them
     pub merged-still : (x : Placed) (mine : List Placed) (k : ℕ) (d : Doc) (rest : History) → x.at ≡ k → moved x ≡ false → merged (x ∷ mine) k d rest ≡ ran_by n x ∷ merged mine k d rest
@@ -70,20 +70,20 @@ module _ (moved : Placed → Bool) where
     merged-still x mine k d (item ∷ rest) e m =
         let here = still-here k x mine e m in
         let there = merged-past x mine (suc k) (apply d item.1).doc rest (omega arith) in
-        ap (λ (xs : List Placed). map (ran_by n) xs ++ (if item.0 == n then changed d item ∷ merged (x ∷ mine) (suc k) (apply d item.1).doc rest else merged (x ∷ mine) (suc k) (apply d item.1).doc rest)) here
-        ∙ ap (λ (rs : List Ran). ran_by n x ∷ (map (ran_by n) (still k mine) ++ (if item.0 == n then changed d item ∷ rs else rs))) there
+        ap (λ (xs : List Placed). map (ran_by n) xs ++ (if item.0 == n then changed k d item ∷ merged (x ∷ mine) (suc k) (apply d item.1).doc rest else merged (x ∷ mine) (suc k) (apply d item.1).doc rest)) here
+        ∙ ap (λ (rs : List Ran). ran_by n x ∷ (map (ran_by n) (still k mine) ++ (if item.0 == n then changed k d item ∷ rs else rs))) there
 
     -- where none stands at the place, and the change is another's, they begin at the next
-    pub merged-later : (mine : List Placed) (k : ℕ) (d : Doc) (item : ℕ × Call) (rest : History) → GoOn moved (suc k) mine → (item.0 == n) ≡ false → merged mine k d (item ∷ rest) ≡ merged mine (suc k) (apply d item.1).doc rest
+    pub merged-later : (mine : List Placed) (k : ℕ) (d : Doc) (item : ℕ × Call) (rest : History) → GoOn (λ x. x.at) moved (suc k) mine → (item.0 == n) ≡ false → merged mine k d (item ∷ rest) ≡ merged mine (suc k) (apply d item.1).doc rest
     merged-later mine k d item rest h e =
         let later = merged mine (suc k) (apply d item.1).doc rest in
-        ap (λ (xs : List Placed). map (ran_by n) xs ++ (if item.0 == n then changed d item ∷ later else later)) (none-still k (suc k) mine (omega arith) h)
-        ∙ cond-false (item.0 == n) (changed d item ∷ later) later e
+        ap (λ (xs : List Placed). map (ran_by n) xs ++ (if item.0 == n then changed k d item ∷ later else later)) (none-still k (suc k) mine (omega arith) h)
+        ∙ cond-false (item.0 == n) (changed k d item ∷ later) later e
 
     -- a call at the place that moves is no other than the change
-    pub merged-moved : (x : Placed) (mine : List Placed) (k : ℕ) (d : Doc) (item : ℕ × Call) (rest : History) → x.at ≡ k → moved x ≡ true → GoOn moved (suc k) mine → (item.0 == n) ≡ true → merged (x ∷ mine) k d (item ∷ rest) ≡ changed d item ∷ merged mine (suc k) (apply d item.1).doc rest
+    pub merged-moved : (x : Placed) (mine : List Placed) (k : ℕ) (d : Doc) (item : ℕ × Call) (rest : History) → x.at ≡ k → moved x ≡ true → GoOn (λ x. x.at) moved (suc k) mine → (item.0 == n) ≡ true → merged (x ∷ mine) k d (item ∷ rest) ≡ changed k d item ∷ merged mine (suc k) (apply d item.1).doc rest
     merged-moved x mine k d item rest e m h own =
         let later = merged (x ∷ mine) (suc k) (apply d item.1).doc rest in
-        ap (λ (xs : List Placed). map (ran_by n) xs ++ (if item.0 == n then changed d item ∷ later else later)) (still-moved k x mine m ∙ none-still k (suc k) mine (omega arith) h)
-        ∙ cond-true (item.0 == n) (changed d item ∷ later) later own
-        ∙ ap (λ (rs : List Ran). changed d item ∷ rs) (merged-past x mine (suc k) (apply d item.1).doc rest (omega arith))
+        ap (λ (xs : List Placed). map (ran_by n) xs ++ (if item.0 == n then changed k d item ∷ later else later)) (still-moved k x mine m ∙ none-still k (suc k) mine (omega arith) h)
+        ∙ cond-true (item.0 == n) (changed k d item ∷ later) later own
+        ∙ ap (λ (rs : List Ran). changed k d item ∷ rs) (merged-past x mine (suc k) (apply d item.1).doc rest (omega arith))

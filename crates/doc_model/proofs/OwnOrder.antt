@@ -39,7 +39,7 @@ record IsMerged (moved : Placed → Bool) (n : ℕ) (mine : List Placed) (k : �
 
 module _ (doc : Doc) (history : History) (moved : Placed → Bool) (n : ℕ) where
   -- none of them stands at the place
-  later : (mine : List Placed) (k : ℕ) (d : Doc) (item : ℕ × Call) (rest : History) → GoOn moved (suc k) mine
+  later : (mine : List Placed) (k : ℕ) (d : Doc) (item : ℕ × Call) (rest : History) → GoOn (λ x. x.at) moved (suc k) mine
       → IsMerged moved n mine (suc k) (apply d item.1).doc rest → IsMerged moved n mine k d (item ∷ rest)
   later mine k d item rest g ih = at (item.0 == n) refl
     where
@@ -66,14 +66,15 @@ module _ (doc : Doc) (history : History) (moved : Placed → Bool) (n : ℕ) whe
 
   -- the first one is the change
   same-change : (x : Placed) (k : ℕ) (d : Doc) (item : ℕ × Call) → d ≡ replay doc (take k history) → x.at ≡ k → item ≡ (n, x.call)
-      → x.reply ≡ (turn_at doc history x.at x.call).reply → changed d item ≡ ran_by n x
+      → x.reply ≡ (turn_at doc history x.at x.call).reply → changed k d item ≡ ran_by n x
   same-change x k d item p e i r =
-      ap (λ (y : ℕ × Call). changed d y) i
-      ∙ ap (λ (y : Doc). changed y (n, x.call)) (p ∙ sym (ap (λ (j : ℕ). replay doc (take j history)) e))
-      ∙ ap (λ y. record { number = n; call = x.call; reply = y }) (sym r)
+      ap (λ (y : ℕ × Call). changed k d y) i
+      ∙ ap (λ (y : Doc). changed k y (n, x.call)) (p ∙ sym (ap (λ (j : ℕ). replay doc (take j history)) e))
+      ∙ ap (λ (j : ℕ). changed j (replay doc (take x.at history)) (n, x.call)) (sym e)
+      ∙ ap (λ y. record { at = x.at; number = n; call = x.call; reply = y }) (sym r)
 
   moves-there : (x : Placed) (xs : List Placed) (k : ℕ) (d : Doc) (item : ℕ × Call) (rest : History) → IsAt doc history k d (item ∷ rest)
-      → x.at ≡ k → moved x ≡ true → IsPlaced doc history moved n x → GoOn moved (suc k) xs
+      → x.at ≡ k → moved x ≡ true → IsPlaced doc history moved n x → GoOn (λ x. x.at) moved (suc k) xs
       → IsMerged moved n xs (suc k) (apply d item.1).doc rest → IsMerged moved n (x ∷ xs) k d (item ∷ rest)
   moves-there x xs k d item rest p e m there g ih =
       let held = there.held m in
@@ -86,13 +87,13 @@ module _ (doc : Doc) (history : History) (moved : Placed → Bool) (n : ℕ) whe
       let few = ih.few in record {
         few = omega arith;
         whole = λ h.
-            merged-moved moved n x xs k d item rest e m g own ∙ ap (λ (rs : List Ran). changed d item ∷ rs) (ih.whole (omega arith))
+            merged-moved moved n x xs k d item rest e m g own ∙ ap (λ (rs : List Ran). changed k d item ∷ rs) (ih.whole (omega arith))
             ∙ ap (λ (y : Ran). y ∷ map (ran_by n) xs) (same-change x k d item p.there e is there.reply);
       }
 
   -- no call moves at the end, or stands behind it
   module _ (k : ℕ) (d : Doc) (p : IsAt doc history k d []) where
-    at-end : (mine : List Placed) → Each (IsPlaced doc history moved n) mine → GoOn moved k mine → IsMerged moved n mine k d []
+    at-end : (mine : List Placed) → Each (IsPlaced doc history moved n) mine → GoOn (λ x. x.at) moved k mine → IsMerged moved n mine k d []
     at-end [] e g = record { few = omega arith; whole = λ h. refl }
     at-end (x ∷ xs) e g = at (x.at == k) refl (moved x) refl (at-end xs e.1 (go-on-before moved x.at k xs g.0 (go-on-behind moved k x xs g)))
       where
@@ -109,19 +110,19 @@ module _ (doc : Doc) (history : History) (moved : Placed → Bool) (n : ℕ) whe
   -- what is said of all lists of calls from a place on
   abbrev MergesFrom : History → Type 0
   MergesFrom rest =
-      (k : ℕ) (d : Doc) → IsAt doc history k d rest → (mine : List Placed) → Each (IsPlaced doc history moved n) mine → GoOn moved k mine
+      (k : ℕ) (d : Doc) → IsAt doc history k d rest → (mine : List Placed) → Each (IsPlaced doc history moved n) mine → GoOn (λ x. x.at) moved k mine
       → IsMerged moved n mine k d rest
 
   module _ (item : ℕ × Call) (rest : History) (next : MergesFrom rest) (k : ℕ) (d : Doc) (p : IsAt doc history k d (item ∷ rest)) where
-    from-there : (mine : List Placed) → Each (IsPlaced doc history moved n) mine → GoOn moved (suc k) mine → IsMerged moved n mine (suc k) (apply d item.1).doc rest
+    from-there : (mine : List Placed) → Each (IsPlaced doc history moved n) mine → GoOn (λ x. x.at) moved (suc k) mine → IsMerged moved n mine (suc k) (apply d item.1).doc rest
     from-there mine e g = next (suc k) (apply d item.1).doc (next-place doc history k d item rest p) mine e g
 
-    behind : (x : Placed) (xs : List Placed) → x.at ≡ k → moved x ≡ true → GoOn moved k (x ∷ xs) → GoOn moved (suc k) xs
+    behind : (x : Placed) (xs : List Placed) → x.at ≡ k → moved x ≡ true → GoOn (λ x. x.at) moved k (x ∷ xs) → GoOn (λ x. x.at) moved (suc k) xs
     behind x xs e m g =
         let one = cond-true (moved x) (x.at + 1) x.at m in
         go-on-before moved (cond (moved x) (x.at + 1) x.at) (suc k) xs (omega arith) g.1
 
-    at-change : (mine : List Placed) → Each (IsPlaced doc history moved n) mine → GoOn moved k mine → IsMerged moved n mine k d (item ∷ rest)
+    at-change : (mine : List Placed) → Each (IsPlaced doc history moved n) mine → GoOn (λ x. x.at) moved k mine → IsMerged moved n mine k d (item ∷ rest)
     at-change [] e g = later [] k d item rest tt (from-there [] tt tt)
     at-change (x ∷ xs) e g = at (x.at == k) refl (moved x) refl (at-change xs e.1 (go-on-before moved x.at k xs g.0 (go-on-behind moved k x xs g)))
       where

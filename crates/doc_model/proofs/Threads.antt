@@ -34,7 +34,7 @@ module _ (moved : Placed → Bool) where
 
   abbrev pub run_from : List (ℕ × List Placed) → ℕ → Doc → History → List Ran
   run_from callers k d [] = all_still k callers ++ []
-  run_from callers k d (item ∷ rest) = all_still k callers ++ changed d item ∷ run_from callers (suc k) (apply d item.1).doc rest
+  run_from callers k d (item ∷ rest) = all_still k callers ++ changed k d item ∷ run_from callers (suc k) (apply d item.1).doc rest
 
   none-under : (k n : ℕ) (callers : List (ℕ × List Placed)) → Each (λ c. (c.0 == n) ≡ false) callers → under n (all_still k callers) ≡ []
   none-under k n [] h = refl
@@ -65,6 +65,6 @@ module _ (moved : Placed → Bool) where
       filter-append (λ x. x.number == c.0) (all_still k callers) [] ∙ ap (λ (rs : List Ran). rs ++ []) (own k)
   run-merged callers c own k d (item ∷ rest) =
       let next = run_from callers (suc k) (apply d item.1).doc rest in
-      filter-append (λ x. x.number == c.0) (all_still k callers) (changed d item ∷ next)
-      ∙ ap (λ (rs : List Ran). rs ++ (if item.0 == c.0 then changed d item ∷ under c.0 next else under c.0 next)) (own k)
-      ∙ ap (λ (rs : List Ran). still_of k c ++ (if item.0 == c.0 then changed d item ∷ rs else rs)) (run-merged callers c own (suc k) (apply d item.1).doc rest)
+      filter-append (λ x. x.number == c.0) (all_still k callers) (changed k d item ∷ next)
+      ∙ ap (λ (rs : List Ran). rs ++ (if item.0 == c.0 then changed k d item ∷ under c.0 next else under c.0 next)) (own k)
+      ∙ ap (λ (rs : List Ran). still_of k c ++ (if item.0 == c.0 then changed k d item ∷ rs else rs)) (run-merged callers c own (suc k) (apply d item.1).doc rest)

@@ -1,6 +1,6 @@
 -- The history of a document: the calls that moved it, in order, each with its caller's number. And where in it the calls of
 -- one caller stand.
-use Rattle.std.specs.Prelude.{◌≡◌, ℕ, ◌+◌, ◌-◌, ◌^◌, ◌==◌, ◌≤◌, min, Bool, true, false, if◌then◌else◌, List, [], ◌∷◌, length, map, filter, filter_map, take, slice_get, All, Option, None, Some}
+use Rattle.std.specs.Prelude.{◌≡◌, ℕ, ◌+◌, ◌-◌, ◌^◌, ◌==◌, ◌≤◌, min, Bool, true, false, ◌&&◌, if◌then◌else◌, List, [], ◌∷◌, length, map, filter, filter_map, take, slice_get, All, Option, None, Some}
 use Rattle.doc_model.specs.declared.call.Call.{Call}
 use Rattle.doc_model.specs.declared.call.Sub.{Sub}
 use Rattle.doc_model.specs.declared.call.Sub.TheVariants as sub
@@ -13,7 +13,7 @@ use Rattle.doc_model.specs.declared.reply.Submitted.{Submitted}
 use Rattle.doc_model.specs.declared.reply.Submitted.TheVariants.{Answered, DiskFault, JournalFull, NoMemory}
 use Rattle.doc_model.specs.Apply.{apply, replay}
 use Rattle.doc_model.specs.Limits.{most_bodies}
-use Rattle.doc_model.specs.Sound.{Sound}
+use Rattle.doc_model.specs.Sound.{Sound, Valid}
 use Rattle.doc_model.specs.Turns.{Turn}
 
 abbrev pub History : Type 0
@@ -40,6 +40,11 @@ abbrev pub EachMoves : Doc → History → Type 0
 EachMoves doc [] = Unit {0}
 EachMoves doc (x ∷ xs) = ((apply doc x.1).moved ≡ true) × EachMoves (apply doc x.1).doc xs
 
+-- What a document's history is: each of its calls may be made, and moves where it stands.
+pub record IsHistory (doc : Doc) (history : History) : Type 0 where
+  pub valid : All (λ item. Valid item.1) history
+  pub moving : EachMoves doc history
+
 -- What may become of a call: a reply that some sound document gives, no memory, and for a call that may be a change the
 -- faults of a journal.
 abbrev pub Fits : Call → Submitted → Type 0
@@ -61,10 +66,10 @@ turn_at doc history at call = apply (replay doc (take at history)) call
 abbrev pub moves : Doc → History → Placed → Bool
 moves doc history x = (turn_at doc history x.at x.call).moved
 
--- From here on the places never fall, and behind a call that moved they rise.
-abbrev pub GoOn : (Placed → Bool) → ℕ → List Placed → Type 0
-GoOn moved from [] = Unit {0}
-GoOn moved from (x ∷ xs) = (from ≤ x.at) × GoOn moved (if moved x then x.at + 1 else x.at) xs
+-- From here on the places never fall, and behind what moved they rise.
+abbrev pub GoOn : {X : Type 0} → (X → ℕ) → (X → Bool) → ℕ → List X → Type 0
+GoOn at moved from [] = Unit {0}
+GoOn at moved from (x ∷ xs) = (from ≤ at x) × GoOn at moved (if moved x then at x + 1 else at x) xs
 
 -- the calls of a history under a number, and those of a caller that moved
 abbrev pub calls_by : ℕ → History → List Call
@@ -79,7 +84,7 @@ pub record Stands (doc : Doc) (history : History) (n : ℕ) (mine : List Placed)
   pub within : All (λ x. x.at ≤ length history) mine
   pub replies : All (λ x. x.reply ≡ (turn_at doc history x.at x.call).reply) mine
   pub held : All (λ x. moves doc history x ≡ true → slice_get history x.at ≡ Some (n, x.call)) mine
-  pub order : GoOn (moves doc history) 0 mine
+  pub order : GoOn (λ x. x.at) (moves doc history) 0 mine
   pub changes : moved_calls (moves doc history) mine ≡ calls_by n history
 
 -- a caller's call, after so many calls of the history, and what became of it
@@ -88,11 +93,6 @@ pub record Attempt : Type 0 where
   pub call : Call
   pub made : Made
 
--- the places never fall
-abbrev pub NeverFall : ℕ → List Attempt → Type 0
-NeverFall from [] = Unit {0}
-NeverFall from (x ∷ xs) = (from ≤ x.at) × NeverFall x.at xs
-
 -- those that were answered
 abbrev pub placed : ℕ → Call → Submitted → Option Placed
 placed at call (Answered reply) = Some (record { at = at; call = call; reply = reply })
@@ -100,6 +100,14 @@ placed at call _ = None
 
 abbrev pub answered : List Attempt → List Placed
 answered made = filter_map (λ x. placed x.at x.call x.made.submitted) made
+
+-- whether a call was answered and moved
+abbrev pub is_answered : Submitted → Bool
+is_answered (Answered reply) = true
+is_answered _ = false
+
+abbrev pub has_moved : Doc → History → Attempt → Bool
+has_moved doc history x = is_answered x.made.submitted && (turn_at doc history x.at x.call).moved
 
 -- a count of faults rose, or stands at its last number
 abbrev pub Rose : ℕ → ℕ → Type 0
@@ -113,9 +121,10 @@ HasCause moved bodies x DiskFault = (moved ≡ true) × Rose x.made.before x.mad
 HasCause moved bodies x JournalFull = (moved ≡ true) × (most_bodies ≤ bodies + x.at)
 
 -- All that the caller with this number tried, on a document whose journal had so many bodies before the history: the answered
--- calls stand in the history, the others have their causes, and all are in order.
+-- calls stand in the history, the others have their causes, and all are in order, so that what comes behind an answered call
+-- that moved finds it in the history.
 pub record Tried (doc : Doc) (bodies : ℕ) (history : History) (n : ℕ) (made : List Attempt) : Type 0 where
-  pub order : NeverFall 0 made
+  pub order : GoOn (λ x. x.at) (has_moved doc history) 0 made
   pub stands : Stands doc history n (answered made)
   pub within : All (λ x. x.at ≤ length history) made
   pub causes : All (λ x. HasCause (turn_at doc history x.at x.call).moved bodies x x.made.submitted) made

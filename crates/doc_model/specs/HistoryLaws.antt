@@ -1,5 +1,5 @@
 -- What holds of every history.
-use Rattle.std.specs.Prelude.{◌≡◌, ℕ, ◌==◌, nat_eq, Bool, true, false, if◌then◌else◌, List, [], ◌∷◌, ◌++◌, length, map, filter, All, Any}
+use Rattle.std.specs.Prelude.{◌≡◌, ℕ, suc, ◌==◌, nat_eq, Bool, true, false, if◌then◌else◌, List, [], ◌∷◌, ◌++◌, length, map, filter, All, Any}
 use Rattle.std.specs.List.{IsDistinct}
 use Rattle.doc_model.specs.declared.call.Call.{Call}
 use Rattle.doc_model.specs.declared.doc.Doc.{Doc}
@@ -7,7 +7,7 @@ use Rattle.doc_model.specs.declared.reply.Reply.{Reply}
 use Rattle.doc_model.specs.declared.reply.Submitted.{Submitted}
 use Rattle.doc_model.specs.declared.reply.Submitted.TheVariants.{Answered}
 use Rattle.doc_model.specs.Apply.{apply, replay}
-use Rattle.doc_model.specs.Histories.{History, can_move, EachMoves, Fits, Placed, Stands, calls_by, Attempt, HasCause, Tried}
+use Rattle.doc_model.specs.Histories.{History, can_move, EachMoves, IsHistory, Fits, Placed, Stands, calls_by, Attempt, HasCause, Tried}
 use Rattle.doc_model.specs.Sound.{Sound, Valid}
 use Rattle.doc_model.specs.Turns.{Turn}
 
@@ -21,8 +21,9 @@ UnmovedBetween =
     (doc : Doc) (before after : History) (item : ℕ × Call) → (apply (replay doc before) item.1).moved ≡ false
     → replay doc (before ++ item ∷ after) ≡ replay doc (before ++ after)
 
--- one call of a thread, with its caller's number and the reply
+-- one call of a thread, after so many changes, with its caller's number and the reply
 pub record Ran : Type 0 where
+  pub at : ℕ
   pub number : ℕ
   pub call : Call
   pub reply : Reply
@@ -41,9 +42,14 @@ changes_of doc [] = []
 changes_of doc (x ∷ xs) =
     if (apply doc x.1).moved then x ∷ changes_of (apply doc x.1).doc xs else changes_of (apply doc x.1).doc xs
 
+-- Each call of a run stands after as many changes as it says, from so many on.
+abbrev pub AreAt : Doc → ℕ → List Ran → Type 0
+AreAt doc k [] = Unit {0}
+AreAt doc k (x ∷ xs) = (x.at ≡ k) × AreAt (apply doc x.call).doc (if (apply doc x.call).moved then suc k else k) xs
+
 -- what this caller ran
 abbrev pub ran_by : ℕ → Placed → Ran
-ran_by n x = record { number = n; call = x.call; reply = x.reply }
+ran_by n x = record { at = x.at; number = n; call = x.call; reply = x.reply }
 
 -- The callers of a history, by their numbers: all of them, each once, and the calls of each stand in it.
 pub record AreCallers (doc : Doc) (history : History) (callers : List (ℕ × List Placed)) : Type 0 where
@@ -54,6 +60,7 @@ pub record AreCallers (doc : Doc) (history : History) (callers : List (ℕ × Li
 -- The run is one thread's run of all that these callers called, and of nothing else: each call is answered as the document
 -- then says, the changes are the history, and each caller's calls come in its order, with the replies that it had.
 pub record IsOneThread (doc : Doc) (history : History) (callers : List (ℕ × List Placed)) (run : List Ran) : Type 0 where
+  pub places : AreAt doc 0 run
   pub replies : Runs doc run
   pub changes : changes_of doc (calls_of run) ≡ history
   pub leads_to : replay doc (calls_of run) ≡ replay doc history
@@ -71,6 +78,12 @@ abbrev pub FitsWhatStands : Type 0
 FitsWhatStands =
     (doc : Doc) (history : History) (n : ℕ) (mine : List Placed) → Sound doc → All (λ item. Valid item.1) history
     → Stands doc history n mine → All (λ x. Fits x.call (Answered x.reply)) mine
+
+-- What became of all that a caller tried fits.
+abbrev pub FitsWhatWasTried : Type 0
+FitsWhatWasTried =
+    (doc : Doc) (bodies : ℕ) (history : History) (n : ℕ) (made : List Attempt) → Sound doc → All (λ item. Valid item.1) history
+    → Tried doc bodies history n made → All (λ x. Fits x.call x.made.submitted) made
 
 -- what a history gains by a call under this number: the call, where it moves and was answered
 abbrev pub gained : ℕ → Call → Submitted → Bool → History
@@ -115,17 +128,11 @@ TriedWithNext =
     → Became (apply (replay doc history) x.call) bodies x x.made.submitted
     → Tried doc bodies (history ++ gained n x.call x.made.submitted (apply (replay doc history) x.call).moved) n (made ++ x ∷ [])
 
--- Each call of the empty history moves; and of a history with one more at its end, where that one moves there.
-abbrev pub EachMovesAtFirst : Type 0
-EachMovesAtFirst = (doc : Doc) → EachMoves doc []
+-- An empty history is one; and it stays one with whatever it gained by a call that may be made.
+abbrev pub HistoryAtFirst : Type 0
+HistoryAtFirst = (doc : Doc) → IsHistory doc []
 
-abbrev pub EachMovesWith : Type 0
-EachMovesWith =
-    (doc : Doc) (history : History) (n : ℕ) (call : Call) → EachMoves doc history → (apply (replay doc history) call).moved ≡ true
-    → EachMoves doc (history ++ (n, call) ∷ [])
-
--- So each still moves in a history with whatever it gained by a call.
-abbrev pub EachMovesWithGained : Type 0
-EachMovesWithGained =
-    (doc : Doc) (history : History) (n : ℕ) (call : Call) (submitted : Submitted) → EachMoves doc history
-    → EachMoves doc (history ++ gained n call submitted (apply (replay doc history) call).moved)
+abbrev pub HistoryWithGained : Type 0
+HistoryWithGained =
+    (doc : Doc) (history : History) (n : ℕ) (call : Call) (submitted : Submitted) → IsHistory doc history → Valid call
+    → IsHistory doc (history ++ gained n call submitted (apply (replay doc history) call).moved)

@@ -1,5 +1,5 @@
 -- What holds of every document and every call.
-use Rattle.std.specs.Prelude.{◌≡◌, ◌≢◌, ◌⊎◌, ℕ, ◌+◌, true, false, IsTrue, List, [], ◌∷◌, ◌++◌, length, map, drop, Option, Some, None, is_some}
+use Rattle.std.specs.Prelude.{◌≡◌, ◌≢◌, ◌⊎◌, ℕ, ◌+◌, true, false, IsTrue, List, [], ◌∷◌, ◌++◌, length, map, drop, Option, Some, None, is_some, unwrap_or}
 use Rattle.std.specs.List.{All, list_all, slice_get}
 use Rattle.compact_values.specs.declared.guid.Guid.{Guid}
 use Rattle.compact_values.specs.declared.ids.ExGuid.{ExGuid}
@@ -10,19 +10,28 @@ use Rattle.doc_model.specs.declared.doc.Doc.{Doc}
 use Rattle.doc_model.specs.declared.doc.Commit.{Commit}
 use Rattle.doc_model.specs.declared.element.Element.{Element}
 use Rattle.doc_model.specs.declared.reply.Reply.{Reply}
-use Rattle.doc_model.specs.declared.reply.Reply.TheVariants.{Pulled}
-use Rattle.doc_model.specs.Apply.{apply, empty_doc, replay}
+use Rattle.doc_model.specs.declared.call.Sub.TheVariants.{ReadFile}
+use Rattle.doc_model.specs.declared.reply.Code.{Code}
+use Rattle.doc_model.specs.declared.reply.Code.TheVariants.{LeftOnFailedConversion}
+use Rattle.doc_model.specs.declared.reply.Reply.TheVariants.{Pulled, File, Refused}
+use Rattle.doc_model.specs.Apply.{apply, by_kind, empty_doc, replay}
 use Rattle.doc_model.specs.Files.{file, root_chain}
 use Rattle.doc_model.specs.Finding.{find_element}
 use Rattle.doc_model.specs.Pulls.{stored_index, pull}
 use Rattle.doc_model.specs.Puts.{put}
 use Rattle.doc_model.specs.Reached.{names, reached}
 use Rattle.doc_model.specs.Sound.{Sound, Valid}
-use Rattle.doc_model.specs.Versions.{version, restore}
+use Rattle.doc_model.specs.Versions.{version, restore, last_file}
 
 -- A call that doesn't move leaves the document equal.
 abbrev pub UnmovedIsEqual : Type 0
 UnmovedIsEqual = (doc : Doc) (call : Call) → (apply doc call).moved ≡ false → (apply doc call).doc ≡ doc
+
+-- A call that is refused doesn't move, but for one step of the lock: a client whose change to an exclusive lock fails may ask
+-- to leave the shared one then.
+abbrev pub RefusedStays : Type 0
+RefusedStays =
+    (doc : Doc) (call : Call) (c : Code) → (apply doc call).reply ≡ Refused c → c ≢ LeftOnFailedConversion → (apply doc call).moved ≡ false
 
 -- the index that a put expects is the stored one, or it takes any for null and nothing was committed
 abbrev pub ExpectsStored : Doc → Put → Type 0
@@ -92,9 +101,16 @@ DownloadsWhatIsReached =
     (doc : Doc) → Sound doc → doc.commits ≢ []
     → (reached doc.added (pulled_index (pull doc [])) ≡ Some (pulled_elements (pull doc []))) × IsTrue (is_some (file doc.added (pulled_index (pull doc []))))
 
--- Without a commit the answered index is null, and no element is sent.
+-- Without a commit the answered index is null, no element is sent, and the file is empty.
 abbrev pub DownloadsNothing : Type 0
-DownloadsNothing = (doc : Doc) → doc.commits ≡ [] → (pulled_index (pull doc []) ≡ Null) × (pulled_elements (pull doc []) ≡ [])
+DownloadsNothing =
+    (doc : Doc) → doc.commits ≡ [] → (pulled_index (pull doc []) ≡ Null) × (pulled_elements (pull doc []) ≡ []) × (last_file doc.added doc.commits ≡ [])
+
+-- Who reads the file reads what those elements have, and nothing where they have none.
+abbrev pub ReadsTheFile : Type 0
+ReadsTheFile =
+    (doc : Doc) (moment : ℕ) (user : List ℕ)
+    → (by_kind doc moment user ReadFile).reply ≡ File (unwrap_or (file (pulled_elements (pull doc [])) (pulled_index (pull doc []))) [])
 
 -- Every call that may be made leaves a sound document sound, and a document without anything is sound.
 abbrev pub KeepsSound : Type 0

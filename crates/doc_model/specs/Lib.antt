@@ -39,5 +39,6 @@ pub mod NumberedElements
 pub mod SeenResponses
 pub mod ResponseParts
 pub mod Laws
+pub mod NamingLaws
 pub mod LockLaws
 pub mod HistoryLaws

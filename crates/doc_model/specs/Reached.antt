@@ -48,9 +48,13 @@ longest = 1024
 abbrev pub enough : List RevisionMap → ℕ
 enough maps = longest + length maps + 1
 
--- the revisions that are named, cell by cell
+-- of ids each one once, where it comes first
+abbrev pub each_once : List ExGuid → List ExGuid
+each_once ids = firsts same_id ids
+
+-- the revisions that are named, cell by cell: each chain to its end, or to a revision that was named before
 abbrev pub named_revisions : List Element → List RevisionMap → List ExGuid → List ExGuid
-named_revisions added maps currents = flat_map (named_along added maps (enough maps)) currents
+named_revisions added maps currents = each_once (flat_map (named_along added maps (enough maps)) currents)
 
 -- the name of a revision's manifest: by its target, or by its own id where it is not mapped
 abbrev pub revision_name : List Element → List RevisionMap → ExGuid → Name
@@ -99,16 +103,23 @@ group_name added g = name g (said as_group added g)
 abbrev pub blob_name : List Element → ExGuid → Name
 blob_name added b = name b (said as_blob added b)
 
+-- the groups that revisions name, and the blobs that groups name, each once
+abbrev pub named_groups : List Element → List RevisionMap → List ExGuid → List ExGuid
+named_groups added maps revisions = each_once (flat_map (groups_of added maps) revisions)
+
+abbrev pub named_blobs : List Element → List ExGuid → List ExGuid
+named_blobs added groups = each_once (flat_map (blobs_of added) groups)
+
 -- what an index names below itself, in the order of naming
 abbrev pub names_below : List Element → Mappings → List Name
 names_below added maps =
     let revisions = named_revisions added maps.revisions (currents_of added maps) in
-    let groups = flat_map (groups_of added maps.revisions) revisions in
+    let groups = named_groups added maps.revisions revisions in
     map (storage_name added) (take 1 maps.manifests)
     ++ map (cell_name added) (cells_of maps)
     ++ map (revision_name added maps.revisions) revisions
     ++ map (group_name added) groups
-    ++ map (blob_name added) (flat_map (blobs_of added) groups)
+    ++ map (blob_name added) (named_blobs added groups)
 
 -- all that is named, the index first
 abbrev pub names : List Element → ExGuid → List Name

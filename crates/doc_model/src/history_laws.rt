@@ -1,9 +1,9 @@
 //! Laws of histories: each function's contract is one, and it does nothing.
 ghost use Rattle.doc_model.specs.HistoryLaws.{
-  EachMovesAtFirst,
-  EachMovesWith,
-  EachMovesWithGained,
   FitsWhatStands,
+  FitsWhatWasTried,
+  HistoryAtFirst,
+  HistoryWithGained,
   MovesByKind,
   OneThread,
   StandsLater,
@@ -36,6 +36,11 @@ pub fn what_stands_fits()
     ensures { FitsWhatStands }
 {}
 
+/// What became of all that a caller tried on a document that is kept fits.
+pub fn what_was_tried_fits()
+    ensures { FitsWhatWasTried }
+{}
+
 /// As a history grows at its end, the calls of a caller stand in it: none, where none in it is under the caller's number; those
 /// that stood in it, behind which come changes of others; and these with one more call at the end, answered as the document
 /// then says, which the history gains where it moves.
@@ -53,9 +58,8 @@ pub fn attempts_stand_as_the_history_grows()
     ensures next { TriedWithNext }
 {}
 
-/// Each call of a history moves where it stands, if at each step it gained what an answered call that moves there gives it.
-pub fn each_moves_as_the_history_grows()
-    ensures first { EachMovesAtFirst }
-    ensures next { EachMovesWith }
-    ensures gained { EachMovesWithGained }
+/// A document's history stays one, if at each step it gained what an answered call that moves there gives it.
+pub fn a_history_grows_to_a_history()
+    ensures first { HistoryAtFirst }
+    ensures gained { HistoryWithGained }
 {}

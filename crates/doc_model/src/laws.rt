@@ -1,10 +1,16 @@
 //! Laws of the definitions: each function's contract is one, and it does nothing.
-ghost use Rattle.doc_model.specs.Laws.{UnmovedIsEqual, CommitsOnStored, OneCommitOfIndex, CommitsNewIndex, EqualIndexEqualCommits, NamesStay, ReachedStays, ChainStays, FileStays, DownloadsTheFile, DownloadsWhatIsReached, DownloadsNothing, KeepsSound, EmptyIsSound, CallsFollow, HistoriesFollow, RestoresTheFile};
+ghost use Rattle.doc_model.specs.Laws.{UnmovedIsEqual, CommitsOnStored, OneCommitOfIndex, CommitsNewIndex, EqualIndexEqualCommits, NamesStay, ReachedStays, ReadsTheFile, RefusedStays, ChainStays, FileStays, DownloadsTheFile, DownloadsWhatIsReached, DownloadsNothing, KeepsSound, EmptyIsSound, CallsFollow, HistoriesFollow, RestoresTheFile};
 ghost use Rattle.doc_model.specs.LockLaws.{CommitsUnderLock};
+ghost use Rattle.doc_model.specs.NamingLaws.{OnceIsEnough, ObjectOfTheFile};
 
 /// A call that doesn't move leaves the document equal.
 pub fn unmoved_leaves_the_document()
     ensures { UnmovedIsEqual }
+{}
+
+/// A call that is refused changes nothing, but for the client that leaves a shared lock as it asked to.
+pub fn what_is_refused_changes_nothing()
+    ensures { RefusedStays }
 {}
 
 /// A put that doesn't win as the last writer commits on the stored index alone. An index is that of one commit, so where
@@ -35,11 +41,12 @@ pub fn later_elements_change_nothing()
 {}
 
 /// What a client that knows nothing is sent has, alone, the file that the document has at the answered index: it is all
-/// that is reached from there. Without a commit it is sent nothing.
+/// that is reached from there. Without a commit it is sent nothing, and the file is empty. Who reads the file reads the same.
 pub fn downloads_the_file()
     ensures file { DownloadsTheFile }
     ensures reached { DownloadsWhatIsReached }
     ensures nothing { DownloadsNothing }
+    ensures reads { ReadsTheFile }
 {}
 
 /// Every call that may be made leaves a sound document sound, and a document without anything is sound.
@@ -58,4 +65,14 @@ pub fn the_file_at_a_version_stays()
 /// its index.
 pub fn a_restore_gives_the_file()
     ensures { RestoresTheFile }
+{}
+
+/// A revision, a group or a blob that is named again is nothing new: neither what is absent nor what is reached depends on it.
+pub fn each_is_named_once()
+    ensures { OnceIsEnough }
+{}
+
+/// The first object with an id, along the revisions of the root cell, is the one that the file is made with.
+pub fn an_object_is_of_the_file()
+    ensures { ObjectOfTheFile }
 {}
