@@ -1,0 +1,14 @@
+pub mod Places
+pub mod Values
+pub mod Loops
+pub mod Runs
+pub mod Names
+pub mod Texts
+pub mod Steps
+pub mod Attributes
+pub mod TagLaws
+pub mod Skipped
+pub mod ElementLaws
+pub mod SubLaws
+pub mod DocumentLaws
+pub mod Fronts
