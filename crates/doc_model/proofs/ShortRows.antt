@@ -1,15 +1,8 @@
 -- The regular objects of data elements have few bytes of fields.
-use Rattle.std.proofs.Common.{ℕ, ◌+◌, ◌≤◌, length, arith}
-use Rattle.compact_values.specs.declared.guid.Guid.{Guid}
-use Rattle.compact_values.specs.declared.ids.ExGuid.{ExGuid}
+use Rattle.std.proofs.Common.{arith}
 use Rattle.wire_kinds.specs.Kind.{◌▹◌, exguid, serial, cell_id}
 use Rattle.wire_kinds.specs.Short.{Short, short_pair, short_exguid, short_serial, short_cell_id}
 use Rattle.doc_model.specs.ElementRows.{manifest_mapping, cell_mapping, revision_mapping, schema_guid, manifest_root, current_revision, revision_manifest, revision_root, group_reference}
-use Rattle.doc_model.specs.declared.element.ManifestMap.{ManifestMap}
-use Rattle.doc_model.specs.declared.element.CellMap.{CellMap}
-use Rattle.doc_model.specs.declared.element.RevisionMap.{RevisionMap}
-use Rattle.doc_model.specs.declared.element.Root.{Root}
-use Rattle.doc_model.specs.declared.element.RevisionRoot.{RevisionRoot}
 
 short_target : Short 46 (exguid ▹ serial)
 short_target = short_pair 21 25 exguid serial short_exguid short_serial

@@ -1,16 +1,12 @@
 -- Bounds on how many bytes written values, objects and elements take.
-use Rattle.std.proofs.Common.{◌≡◌, ℕ, ◌+◌, ◌-◌, ◌*◌, ◌^◌, ◌≤◌, min, ◌==◌, nat_le, nat_lt, Bool, true, false, cond, List, [], ◌∷◌, ◌++◌, length, refl, arith}
+use Rattle.std.proofs.Common.{◌≡◌, ℕ, ◌+◌, ◌-◌, ◌*◌, ◌^◌, ◌≤◌, min, ◌==◌, nat_le, nat_lt, Bool, true, false, cond, List, [], ◌∷◌, ◌++◌, length, arith}
 use Rattle.std.specs.List.{flat_map}
 use Rattle.std.proofs.lemmas.List.{length-append}
-use Rattle.compact_values.specs.Compact.{compact, little_endian}
-use Rattle.compact_values.specs.GuidBytes.{guid_bytes}
+use Rattle.compact_values.specs.Compact.{compact}
 use Rattle.compact_values.specs.Ids.{guid_spelling, exguid, serial, cell_id}
 use Rattle.compact_values.specs.Items.{item, array}
 use Rattle.compact_values.specs.declared.ids.ExGuid.{ExGuid}
-use Rattle.compact_values.specs.declared.ids.ExGuid.TheVariants.{Null, Id}
-use Rattle.compact_values.specs.declared.ids.CellId.{CellId}
 use Rattle.compact_values.specs.declared.guid.Guid.{Guid}
-use Rattle.compact_values.specs.declared.ids.Serial.{Serial}
 use Rattle.compact_values.specs.declared.ids.Serial.TheVariants as serials
 use Rattle.stream_objects.specs.Written.{simple_object, compound_object}
 use Rattle.doc_model.specs.Weights.{started_size, weight}

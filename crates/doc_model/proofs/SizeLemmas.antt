@@ -1,11 +1,8 @@
 -- How many bytes the objects of a written element take.
-use Rattle.std.proofs.Common.{◌≡◌, ℕ, ◌+◌, ◌≤◌, Bool, true, false, List, [], ◌++◌, length, refl, sym, ap, ◌∙◌, arith}
+use Rattle.std.proofs.Common.{◌≡◌, ℕ, ◌+◌, ◌≤◌, Bool, true, List, [], ◌++◌, length, refl, sym, ap, ◌∙◌, arith}
 use Rattle.std.specs.List.{flat_map}
 use Rattle.std.proofs.lemmas.Bool.Decides.{nat_tests}
 use Rattle.std.proofs.lemmas.List.{length-append}
-use Rattle.compact_values.specs.Ids.{guid_spelling, exguid}
-use Rattle.compact_values.specs.declared.guid.Guid.{Guid}
-use Rattle.compact_values.specs.declared.ids.ExGuid.{ExGuid}
 use Rattle.stream_objects.specs.Written.{started, compound_object}
 use Rattle.stream_objects.specs.Headers.{end_bytes, end_form}
 use Rattle.doc_model.specs.Weights.{started_size}

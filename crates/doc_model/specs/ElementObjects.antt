@@ -2,20 +2,14 @@
 -- hexadecimal. The fields fill the object exactly.
 use Rattle.std.specs.Prelude.{◌≡◌, ◌⊎◌, ℕ, true, false, List, []}
 use Rattle.compact_values.specs.Compact.{SpellsCompact}
-use Rattle.compact_values.specs.Ids.{SpellsGuid, SpellsExGuid, SpellsSerial, SpellsCellId}
+use Rattle.compact_values.specs.Ids.{SpellsExGuid, SpellsSerial}
 use Rattle.compact_values.specs.Items.{SpellsItem, SpellsIds, SpellsCells}
 use Rattle.compact_values.specs.Sequences.{◌▹◌, SpellsByte}
-use Rattle.compact_values.specs.declared.guid.Guid.{Guid}
 use Rattle.compact_values.specs.declared.ids.ExGuid.{ExGuid}
 use Rattle.compact_values.specs.declared.ids.Serial.{Serial}
 use Rattle.compact_values.specs.declared.ids.CellId.{CellId}
 use Rattle.stream_objects.specs.declared.tree.Tree.{Tree}
 use Rattle.stream_objects.specs.Objects.{HasFields}
-use Rattle.doc_model.specs.declared.element.ManifestMap.{ManifestMap}
-use Rattle.doc_model.specs.declared.element.CellMap.{CellMap}
-use Rattle.doc_model.specs.declared.element.RevisionMap.{RevisionMap}
-use Rattle.doc_model.specs.declared.element.Root.{Root}
-use Rattle.doc_model.specs.declared.element.RevisionRoot.{RevisionRoot}
 
 -- the bytes of no fields
 abbrev pub IsNothing : Unit {0} → List ℕ → Type 0

@@ -1,14 +1,9 @@
 -- Elements and knowledge whose numbers are in the ranges of their fields, as all are that a program holds.
 use Rattle.std.specs.Prelude.{◌<◌, ◌^◌, length}
 use Rattle.std.specs.List.{AllByRecursion}
-use Rattle.compact_values.specs.Ids.{FitsGuid, FitsExGuid, FitsSerial, FitsCellId}
+use Rattle.compact_values.specs.Ids.{FitsGuid, FitsExGuid, FitsCellId}
 use Rattle.compact_values.specs.Items.{FitsItem, FitsArray, item}
 use Rattle.doc_model.specs.WrittenElements.{data_fields}
-use Rattle.doc_model.specs.declared.element.ManifestMap.{ManifestMap}
-use Rattle.doc_model.specs.declared.element.CellMap.{CellMap}
-use Rattle.doc_model.specs.declared.element.RevisionMap.{RevisionMap}
-use Rattle.doc_model.specs.declared.element.Root.{Root}
-use Rattle.doc_model.specs.declared.element.RevisionRoot.{RevisionRoot}
 use Rattle.doc_model.specs.declared.element.Object.{Object}
 use Rattle.doc_model.specs.declared.element.Content.{Content}
 use Rattle.doc_model.specs.declared.element.Content.TheVariants.{Inline, Apart}

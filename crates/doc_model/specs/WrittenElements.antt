@@ -7,16 +7,10 @@ use Rattle.compact_values.specs.GuidBytes.{guid_bytes}
 use Rattle.compact_values.specs.Ids.{guid_spelling, exguid, serial, cell_id}
 use Rattle.compact_values.specs.Items.{item, array}
 use Rattle.compact_values.specs.declared.guid.Guid.{Guid}
-use Rattle.compact_values.specs.declared.ids.ExGuid.{ExGuid}
 use Rattle.compact_values.specs.declared.ids.Serial.{Serial}
 use Rattle.compact_values.specs.declared.ids.Serial.TheVariants.{Number}
 use Rattle.stream_objects.specs.Written.{simple_object, compound_object}
 use Rattle.doc_model.specs.Knowledges.{cell_knowledge}
-use Rattle.doc_model.specs.declared.element.ManifestMap.{ManifestMap}
-use Rattle.doc_model.specs.declared.element.CellMap.{CellMap}
-use Rattle.doc_model.specs.declared.element.RevisionMap.{RevisionMap}
-use Rattle.doc_model.specs.declared.element.Root.{Root}
-use Rattle.doc_model.specs.declared.element.RevisionRoot.{RevisionRoot}
 use Rattle.doc_model.specs.declared.element.Object.{Object}
 use Rattle.doc_model.specs.declared.element.Content.{Content}
 use Rattle.doc_model.specs.declared.element.Content.TheVariants.{Inline, Apart}
