@@ -29,6 +29,11 @@ pub is_some_value : {V : Type 0} (o : Option V) → is_some o ≡ true → (v : 
 is_some_value (Some v) e = (v, refl)
 is_some_value None e = absurd cc
 
+-- what a record was made of
+pub mapped : {A V : Type 0} (to : A → V) (back : V → A) → ((a : A) → back (to a) ≡ a) → (o : Option A) (v : V) → option_map to o ≡ Some v → o ≡ Some (back v)
+mapped to back here (Some a) v e = let same : to a ≡ v = cc in ap Some (sym (here a) ∙ ap back same)
+mapped to back here None v e = absurd cc
+
 takes_element : Takes (SpellsExGuid ▹ SpellsSerial ▹ SpellsCompact) (take_both take_exguid (take_both take_serial take_compact))
 takes_element =
     takes_both SpellsExGuid (SpellsSerial ▹ SpellsCompact) take_exguid (take_both take_serial take_compact) takes_exguid (takes_both SpellsSerial SpellsCompact take_serial take_compact takes_serial takes_compact)
@@ -72,6 +77,14 @@ module _ (input : List ℕ) (fits : IsBytes input) where
 
   pub compound_row_again : {A : Type 0} (Spells : A → List ℕ → Type 0) (get : List ℕ → Option (A × List ℕ)) → Takes Spells get → (t : Tree) (a : A) → HasFields true Spells input t a → compound_row get input t ≡ Some a
   compound_row_again {A} Spells get takes t a h = compound_again Spells (λ b. if_all (get b)) (gets_all Spells get takes) input t (IsBytes-fields input t fits) a h
+
+  pub record_found : {A V : Type 0} (Spells : A → List ℕ → Type 0) (get : List ℕ → Option (A × List ℕ)) (to : A → V) (back : V → A) → ((a : A) → back (to a) ≡ a)
+      → Takes Spells get → (t : Tree) (v : V) → option_map to (simple_row get input t) ≡ Some v → HasFields false Spells input t (back v)
+  record_found {A} {V} Spells get to back here takes t v e = row_found Spells get takes t (back v) (mapped to back here (simple_row get input t) v e)
+
+  pub record_again : {A V : Type 0} (Spells : A → List ℕ → Type 0) (get : List ℕ → Option (A × List ℕ)) (to : A → V) (back : V → A) → ((v : V) → to (back v) ≡ v)
+      → Takes Spells get → (t : Tree) (v : V) → HasFields false Spells input t (back v) → option_map to (simple_row get input t) ≡ Some v
+  record_again {A} {V} Spells get to back there takes t v h = ap (option_map to) (row_again Spells get takes t (back v) h) ∙ ap Some (there v)
 
   nothing : (bytes : List ℕ) → is_nothing bytes ≡ true → bytes ≡ []
   nothing [] e = refl

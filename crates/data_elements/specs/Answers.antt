@@ -13,13 +13,14 @@ use Rattle.doc_model.specs.declared.element.NumberedElement.{NumberedElement}
 use Rattle.doc_model.specs.declared.knowledge.Knowledge.{Knowledge}
 use Rattle.data_elements.specs.declared.fault.ElementFault.{ElementFault}
 use Rattle.data_elements.specs.declared.fault.ElementFault.TheVariants.{SchemaFault, TooMany, NoMemory}
+use Rattle.doc_model.specs.Limits.{most_elements}
 
 -- The elements of a package in form, at most 8,192; or where the fields of the first object start that isn't in its
 -- form; or all objects are in form and there are more elements.
 abbrev pub IsPackageAnswer : List ℕ → Tree → Result (List Element) ElementFault → Type 0
-IsPackageAnswer input tree (Ok elements) = IsPackage input tree elements × (length elements ≤ 8192)
+IsPackageAnswer input tree (Ok elements) = IsPackage input tree elements × (length elements ≤ most_elements)
 IsPackageAnswer input tree (Err (SchemaFault place)) = IsFirstBroken (elements.InOwnForm input) elements.part_start (elements.package_parts input tree) place
-IsPackageAnswer input tree (Err TooMany) = (elements : List Element) × IsPackage input tree elements × (8192 < length elements)
+IsPackageAnswer input tree (Err TooMany) = (elements : List Element) × IsPackage input tree elements × (most_elements < length elements)
 IsPackageAnswer input tree (Err NoMemory) = Unit {0}
 
 -- The knowledge; or where the fields of the first object start that isn't in its form.

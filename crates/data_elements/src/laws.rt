@@ -16,18 +16,19 @@ ghost use Rattle.doc_model.specs.declared.element.Element.{Element};
 ghost use Rattle.doc_model.specs.declared.element.NumberedElement.{NumberedElement};
 ghost use Rattle.doc_model.specs.declared.knowledge.Knowledge.{Knowledge};
 ghost use Rattle.data_elements.specs.StandsAs.{StandsAs};
+ghost use Rattle.doc_model.specs.Limits.{most_objects};
 
 /// An element of any kind, with its serial number.
 pub fn written_element()
-    ensures { (e : Element) (s : Serial) → FitsElement e → FitsSerial s → objects_written e ≤ 262144 → StandsAs (element_bytes e s) (λ t. IsElementWith (element_bytes e s) t s e) }
+    ensures { (e : Element) (s : Serial) → FitsElement e → FitsSerial s → objects_written e ≤ most_objects → StandsAs (element_bytes e s) (λ t. IsElementWith (element_bytes e s) t s e) }
 {}
 
 /// A package: its elements in order.
 pub fn written_package()
-    ensures { (guid : Guid) (ns : List NumberedElement) → FitsGuid guid → AllByRecursion FitsNumbered ns → package_objects ns ≤ 262144 → StandsAs (package_bytes guid ns) (λ t. IsPackage (package_bytes guid ns) t (map (λ m. m.element) ns)) }
+    ensures { (guid : Guid) (ns : List NumberedElement) → FitsGuid guid → AllByRecursion FitsNumbered ns → package_objects ns ≤ most_objects → StandsAs (package_bytes guid ns) (λ t. IsPackage (package_bytes guid ns) t (map (λ m. m.element) ns)) }
 {}
 
 /// Knowledge: its ranges in order.
 pub fn written_knowledge()
-    ensures { (k : Knowledge) → AllByRecursion FitsRange k.ranges → 3 + length k.ranges ≤ 262144 → StandsAs (knowledge_bytes k) (λ t. IsKnowledge (knowledge_bytes k) t k) }
+    ensures { (k : Knowledge) → AllByRecursion FitsRange k.ranges → 3 + length k.ranges ≤ most_objects → StandsAs (knowledge_bytes k) (λ t. IsKnowledge (knowledge_bytes k) t k) }
 {}

@@ -8,12 +8,10 @@ use crate::body::read_body;
 use crate::fault::{ElementFault, fault};
 use crate::rows::{element_row, package_row};
 use compact_values::{NoMemory, Seq};
+use doc_model::limits::MOST_ELEMENTS;
 use doc_model::{Element, Elements};
 use std::alloc::Global;
 use stream_objects::Tree;
-
-/// How many elements a package may have.
-const MOST_ELEMENTS: usize = 8192;
 
 /// An element. Its serial number is dropped.
 #[tactic(auto, unfolding(crate::specs::Reading::element_at))]

@@ -11,6 +11,7 @@
 //! - `core_trait`: a document, however it is kept
 //! - `copied`, `same`: copies of plain data, and exact comparison
 //! - `laws`, `lock_laws`, `history_laws`: what holds of the definitions themselves
+//! - `limits`: the limits of a document
 //! - `request`: what a request asks for
 //! - `element_rows`: the regular objects of elements as tuples of their fields
 //! - `sizes`: how many bytes the values of a written element take
@@ -30,6 +31,7 @@ mod element_rows;
 pub mod history_laws;
 mod knowledge;
 pub mod laws;
+pub mod limits;
 mod lock;
 pub mod lock_laws;
 mod made;

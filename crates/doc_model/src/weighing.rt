@@ -5,6 +5,7 @@ ghost use Rattle.std.specs.List.{flat_map};
 ghost use Rattle.wire_kinds.specs.Row.{row_bytes};
 ghost use Rattle.doc_model.specs.ElementRows.{manifest_mapping, cell_mapping, revision_mapping, schema_guid, manifest_root, current_revision, revision_manifest, revision_root, group_reference};
 ghost use Rattle.doc_model.specs.WrittenElements.{declaration_bytes, data_bytes, declarations_bytes, datas_bytes, blob_bytes, body_bytes};
+ghost use Rattle.doc_model.specs.Limits.{most_objects};
 ghost use Rattle.doc_model.specs.Weights.{weight, objects_in, objects_written};
 
 use crate::element::{
@@ -16,7 +17,7 @@ use wire_kinds::{row_size, size_of_rows};
 
 // The children of a storage index.
 fn index_weight(manifests: &[ManifestMap], cells: &[CellMap], revisions: &[RevisionMap]) -> u128
-    requires { length manifests.now + length cells.now + length revisions.now ≤ 262144 }
+    requires { length manifests.now + length cells.now + length revisions.now ≤ most_objects }
     ensures length { result ≡ length (flat_map (row_bytes manifest_mapping) manifests.now ++ flat_map (row_bytes cell_mapping) cells.now ++ flat_map (row_bytes revision_mapping) revisions.now) }
     ensures few { result ≤ 2 ^ 93 }
 {
@@ -37,7 +38,7 @@ fn declaration_weight(object: &Object) -> u128
 
 // The declarations of objects.
 fn declarations_weight(declarations: &[Object]) -> u128
-    requires { length declarations.now ≤ 262144 }
+    requires { length declarations.now ≤ most_objects }
     ensures length { result ≡ length (flat_map declaration_bytes declarations.now) }
     ensures few { result ≤ 2 ^ 73 * length declarations.now }
 {
@@ -59,7 +60,7 @@ fn data_weight(object: &Object) -> u128
 
 // The data of objects.
 fn datas_weight(datas: &[Object]) -> u128
-    requires { length datas.now ≤ 262144 }
+    requires { length datas.now ≤ most_objects }
     ensures length { result ≡ length (flat_map data_bytes datas.now) }
     ensures few { result ≤ 2 ^ 73 * length datas.now }
 {
@@ -72,7 +73,7 @@ fn datas_weight(datas: &[Object]) -> u128
 
 // The two children of a group.
 fn group_weight(objects: &[Object]) -> u128
-    requires { 2 * length objects.now ≤ 262144 }
+    requires { 2 * length objects.now ≤ most_objects }
     ensures length { result ≡ length (declarations_bytes objects.now ++ datas_bytes objects.now) }
     ensures few { result ≤ 2 ^ 93 }
 {
@@ -81,7 +82,7 @@ fn group_weight(objects: &[Object]) -> u128
 
 // The children of a storage manifest.
 fn storage_weight(schema: &Guid, roots: &[Root]) -> u128
-    requires { length roots.now ≤ 262144 }
+    requires { length roots.now ≤ most_objects }
     ensures length { result ≡ length (row_bytes schema_guid schema.now ++ flat_map (row_bytes manifest_root) roots.now) }
     ensures few { result ≤ 2 ^ 93 }
 {
@@ -98,7 +99,7 @@ fn current_weight(current: &ExGuid) -> u128
 
 // The children of a revision manifest.
 fn revision_weight(ids: &(ExGuid, ExGuid), roots: &[RevisionRoot], groups: &[ExGuid]) -> u128
-    requires { length roots.now + length groups.now ≤ 262144 }
+    requires { length roots.now + length groups.now ≤ most_objects }
     ensures length { result ≡ length (row_bytes revision_manifest ids.now ++ flat_map (row_bytes revision_root) roots.now ++ flat_map (row_bytes group_reference) groups.now) }
     ensures few { result ≤ 2 ^ 93 }
 {
@@ -120,7 +121,7 @@ fn blob_weight(bytes: &[u8]) -> u128
 // The children of an element.
 #[tactic(auto, unfolding(crate::specs::WrittenElements::body_bytes))]
 fn body_weight(body: &Body) -> u128
-    requires { objects_in body.now ≤ 262144 }
+    requires { objects_in body.now ≤ most_objects }
     ensures length { result ≡ length (body_bytes body.now) }
     ensures few { result ≤ 2 ^ 94 }
 {
@@ -150,7 +151,7 @@ fn body_weight(body: &Body) -> u128
 /// The length of the written form of an element with a null serial number (MS-FSSHTTPB 2.2.1.12). It takes no memory. The
 /// element is written in at most 262,144 stream objects, its own and those in it, which is what a tree of objects may have.
 pub fn weight(element: &Element) -> u128
-    requires { objects_written element.now ≤ 262144 }
+    requires { objects_written element.now ≤ most_objects }
     ensures { result ≡ weight element.now }
 {
     started_size((exguid_size(&element.id) + 2) as u128) + body_weight(&element.body) + 1

@@ -14,6 +14,7 @@ use Rattle.data_elements.specs.declared.fault.ElementFault.{ElementFault}
 use Rattle.data_elements.specs.declared.fault.ElementFault.TheVariants as elements
 use Rattle.data_elements.specs.declared.wire_fault.WireFault.{WireFault}
 use Rattle.data_elements.specs.declared.wire_fault.WireFault.TheVariants.{BadFront, BadSignature, TreeFault, Extra, SchemaFault, TooMany, NoMemory}
+use Rattle.doc_model.specs.Limits.{most_elements}
 
 -- The front is that of a request, and a tree follows it and nothing more.
 pub record IsFramed (bytes : List ℕ) (tree : Tree) : Type 0 where
@@ -28,7 +29,7 @@ IsRefusal bytes BadSignature = HasVersions bytes × (¬ HasSignature bytes)
 IsRefusal bytes (TreeFault fault) = HasVersions bytes × HasSignature bytes × IsFaultAt bytes 12 fault × (fault ≢ trees.NoMemory)
 IsRefusal bytes (Extra place) = HasVersions bytes × HasSignature bytes × (place < length bytes) × ((tree : Tree) × IsTreeAt bytes tree 12 place)
 IsRefusal bytes (SchemaFault place) = (tree : Tree) × IsFramed bytes tree × IsFirstBroken (InOwnForm bytes) part_start (request_parts bytes tree) place
-IsRefusal bytes TooMany = (tree : Tree) × IsFramed bytes tree × ((request : CellRequest) × SaysRequest bytes tree request × (8192 < length request.elements))
+IsRefusal bytes TooMany = (tree : Tree) × IsFramed bytes tree × ((request : CellRequest) × SaysRequest bytes tree request × (most_elements < length request.elements))
 IsRefusal bytes NoMemory = Unit {0}
 
 abbrev pub IsAnswer : List ℕ → Result CellRequest WireFault → Type 0
@@ -71,8 +72,8 @@ GivesTo (Err (Extra place)) values read = ⊥
 
 -- The same for what has elements, which may be too many.
 abbrev pub GivesFew : {V : Type 0} → (V → List Element) → Result V WireFault → Result V ℕ → Type 0
-GivesFew elements_of (Ok v) read = (read ≡ Ok v) × (length (elements_of v) ≤ 8192)
-GivesFew {V} elements_of (Err TooMany) read = (v : V) × (read ≡ Ok v) × (8192 < length (elements_of v))
+GivesFew elements_of (Ok v) read = (read ≡ Ok v) × (length (elements_of v) ≤ most_elements)
+GivesFew {V} elements_of (Err TooMany) read = (v : V) × (read ≡ Ok v) × (most_elements < length (elements_of v))
 GivesFew elements_of (Err (SchemaFault place)) read = read ≡ Err place
 GivesFew elements_of (Err NoMemory) read = Unit {0}
 GivesFew elements_of (Err BadFront) read = ⊥

@@ -12,6 +12,7 @@ use Rattle.data_elements.specs.declared.fault.ElementFault.{ElementFault}
 use Rattle.data_elements.specs.declared.fault.ElementFault.TheVariants as elements
 use Rattle.data_elements.specs.declared.wire_fault.WireFault.{WireFault}
 use Rattle.data_elements.specs.declared.wire_fault.WireFault.TheVariants.{BadFront, BadSignature, TreeFault, Extra, SchemaFault, TooMany, NoMemory}
+use Rattle.doc_model.specs.Limits.{most_elements}
 
 -- Each refusal comes where those before it don't.
 abbrev pub IsRefusal : List ℕ → WireFault → Type 0
@@ -24,7 +25,7 @@ IsRefusal bytes (SchemaFault place) =
     × ((tree : Tree) × IsTreeAt bytes tree 12 (length bytes) × IsFirstBroken (InOwnForm bytes) part_start (response_parts bytes tree) place)
 IsRefusal bytes TooMany =
     HasVersions bytes × HasSignature bytes
-    × ((tree : Tree) × IsTreeAt bytes tree 12 (length bytes) × (response : CellResponse) × IsCellResponse bytes tree response × (8192 < length response.elements))
+    × ((tree : Tree) × IsTreeAt bytes tree 12 (length bytes) × (response : CellResponse) × IsCellResponse bytes tree response × (most_elements < length response.elements))
 IsRefusal bytes NoMemory = Unit {0}
 
 abbrev pub IsAnswer : List ℕ → Result CellResponse WireFault → Type 0
@@ -53,9 +54,9 @@ GivesResponse (Err elements.TooMany) read = ⊥
 
 -- It is what reading gives, where there are not too many elements, unless memory ran out.
 abbrev pub GivesFew : Result CellResponse WireFault → Result CellResponse ℕ → Type 0
-GivesFew (Ok response) read = (read ≡ Ok response) × (length response.elements ≤ 8192)
+GivesFew (Ok response) read = (read ≡ Ok response) × (length response.elements ≤ most_elements)
 GivesFew (Err (SchemaFault place)) read = read ≡ Err place
-GivesFew (Err TooMany) read = (response : CellResponse) × (read ≡ Ok response) × (8192 < length response.elements)
+GivesFew (Err TooMany) read = (response : CellResponse) × (read ≡ Ok response) × (most_elements < length response.elements)
 GivesFew (Err NoMemory) read = Unit {0}
 GivesFew (Err BadFront) read = ⊥
 GivesFew (Err BadSignature) read = ⊥

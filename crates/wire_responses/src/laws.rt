@@ -9,6 +9,7 @@ ghost use Rattle.doc_model.specs.declared.response.CellResponse.{CellResponse};
 ghost use Rattle.data_elements.specs.declared.wire_fault.WireFault.TheVariants.{SchemaFault};
 ghost use Rattle.wire_responses.specs.ResponseAnswers.{IsRefusal};
 ghost use Rattle.wire_responses.specs.Seeing.{FitsAnswer, seen, response_objects};
+ghost use Rattle.doc_model.specs.Limits.{most_elements, most_objects};
 
 /// Bytes are read as at most one response.
 pub fn one_response()
@@ -18,7 +19,7 @@ pub fn one_response()
 /// A written response is read as the same answers and elements again, where its numbers are in the ranges of their fields, each
 /// answer that isn't an error is that of a sub-request of its kind, and there are not too many elements and objects.
 pub fn written_response()
-    ensures { (answers : List Answer) → AllByRecursion FitsAnswer answers → length (seen answers).elements ≤ 8192 → response_objects answers ≤ 262144 → ReadsAs (response answers) (seen answers) }
+    ensures { (answers : List Answer) → AllByRecursion FitsAnswer answers → length (seen answers).elements ≤ most_elements → response_objects answers ≤ most_objects → ReadsAs (response answers) (seen answers) }
 {}
 
 /// What says that the whole request failed is in the form of no response.

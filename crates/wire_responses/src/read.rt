@@ -12,12 +12,10 @@ use crate::reply::fault;
 use crate::sub_response::read_sub_response;
 use compact_values::{NoMemory, Seq};
 use data_elements::{ElementFault, WireFault, package_row, read_numbered};
+use doc_model::limits::MOST_ELEMENTS;
 use doc_model::{CellResponse, Numbered};
 use std::alloc::Global;
 use stream_objects::{Tree, TreeFault, only_child, read_tree};
-
-/// How many elements a response may have.
-const MOST_ELEMENTS: usize = 8192;
 
 // The elements of a package, with the values of their serial numbers.
 fn read_elements(alloc: Global, bytes: &[u8], tree: &Tree) -> Result<Numbered, ElementFault>
