@@ -1,6 +1,6 @@
 -- The put of a file that is cut is accepted.
 use Rattle.std.proofs.Common.{◌≡◌, ℕ, ◌+◌, ◌≤◌, nat_lt, Bool, true, false, not, ◌&&◌, ◌||◌, List, [], ◌∷◌, ◌++◌, length, map, filter, Option, None, Some, refl, sym, ap, subst, inl, inr, ◌∙◌, arith}
-use Rattle.std.specs.Prelude.{find, slice_get, is_some, is_none, option_map, unwrap_or}
+use Rattle.std.specs.Prelude.{find, take, slice_get, is_some, is_none, option_map, unwrap_or}
 use Rattle.std.specs.Int.{div_ceil}
 use Rattle.std.proofs.lemmas.Bool.{cases_lt}
 use Rattle.std.proofs.lemmas.Grind.{flat_map-append}
@@ -17,10 +17,10 @@ use Rattle.doc_model.specs.declared.element.Name.{Name}
 use Rattle.doc_model.specs.declared.element.Object.{Object}
 use Rattle.doc_model.specs.declared.reply.Code.{Code}
 use Rattle.doc_model.specs.Files.{file}
-use Rattle.doc_model.specs.Finding.{as_index, as_storage, as_cell, as_revision, as_group, find_element, said}
+use Rattle.doc_model.specs.Finding.{Mappings, as_index, as_storage, as_cell, as_revision, as_group, find_element, said}
 use Rattle.doc_model.specs.Limits.{most_file, most_added_weight, most_reached_weight}
 use Rattle.doc_model.specs.Puts.{put, committed, commit_reasons, commit_refusal, grown, has_chains, has_invalid, is_foreign, is_invalid, is_new, too_large, too_much_added}
-use Rattle.doc_model.specs.Reached.{absent, blob_of, named_along, names, names_below, reached_from, is_among}
+use Rattle.doc_model.specs.Reached.{absent, blob_of, blob_name, cell_name, cells_of, currents_of, each_once, group_name, named_along, named_blobs, named_groups, named_revisions, names, names_below, reached_from, revision_name, storage_name, is_among}
 use Rattle.doc_model.specs.Turns.{Turn, first_refusal, unless}
 use Rattle.doc_model.specs.Weights.{weight, weight_of}
 use Rattle.doc_model.proofs.AllFirst.{firsts-distinct}
@@ -57,9 +57,40 @@ module _ (added : List Element) (objects : List Object) (guid : Guid) (first : �
     (revision : said as_revision added (id_of guid (first + 3)) ≡ Some (manifest guid first))
     (group : said as_group added (id_of guid (first + 4)) ≡ Some objects)
     (no_blobs : flat_map (λ o. blob_of o.content) objects ≡ []) where
-  below : names_below added (mappings guid first) ≡ found guid (first + 1) ∷ found guid (first + 2) ∷ found guid (first + 3) ∷ found guid (first + 4) ∷ []
+  abbrev maps : Mappings
+  maps = mappings guid first
+
+  abbrev revision_id : ExGuid
+  revision_id = id_of guid (first + 5)
+
+  abbrev group_id : ExGuid
+  group_id = id_of guid (first + 4)
+
+  one_revision : named_revisions added maps.revisions (currents_of added maps) ≡ revision_id ∷ []
   unfolding named_along
-  below = rw (storage, cell, same-id (id_of guid (first + 5)), revision, group, no_blobs)
+  one_revision = rw (cell, same-id revision_id, revision) refl
+
+  one_group : named_groups added maps.revisions (revision_id ∷ []) ≡ group_id ∷ []
+  one_group = rw (same-id revision_id, revision) refl
+
+  no_blob : named_blobs added (group_id ∷ []) ≡ []
+  no_blob = ap (λ (o : Option (List Object)). each_once (flat_map (λ o. blob_of o.content) (unwrap_or o []) ++ [])) group ∙ ap (λ (bs : List ExGuid). each_once (bs ++ [])) no_blobs
+
+  -- what is named, given the revisions, the groups and the blobs
+  abbrev naming : List ExGuid → List ExGuid → List ExGuid → List Name
+  naming rs gs bs =
+      map (storage_name added) (take 1 maps.manifests) ++ map (cell_name added) (cells_of maps) ++ map (revision_name added maps.revisions) rs
+      ++ map (group_name added) gs ++ map (blob_name added) bs
+
+  each_found : naming (revision_id ∷ []) (group_id ∷ []) [] ≡ found guid (first + 1) ∷ found guid (first + 2) ∷ found guid (first + 3) ∷ found guid (first + 4) ∷ []
+  each_found = rw (storage, cell, same-id revision_id, revision, group) refl
+
+  below : names_below added (mappings guid first) ≡ found guid (first + 1) ∷ found guid (first + 2) ∷ found guid (first + 3) ∷ found guid (first + 4) ∷ []
+  below =
+      ap (λ (rs : List ExGuid). naming rs (named_groups added maps.revisions rs) (named_blobs added (named_groups added maps.revisions rs))) one_revision
+      ∙ ap (λ (gs : List ExGuid). naming (revision_id ∷ []) gs (named_blobs added gs)) one_group
+      ∙ ap (naming (revision_id ∷ []) (group_id ∷ [])) no_blob
+      ∙ each_found
 
   pub nothing_absent : absent added (id_of guid first) ≡ None
   nothing_absent =
@@ -72,27 +103,27 @@ module _ (added : List Element) (objects : List Object) (guid : Guid) (first : �
 
 -- ---- no object of a file has its bytes in a blob
 
-abbrev named_blobs : List Object → List ExGuid
-named_blobs os = flat_map (λ o. blob_of o.content) os
+abbrev own_blobs : List Object → List ExGuid
+own_blobs os = flat_map (λ o. blob_of o.content) os
 
 none-numbered : {X : Type 0} (make : ℕ → X → Part) → ((v : ℕ) (x : X) → blob_of (make v x).object.content ≡ []) → (v : ℕ) (xs : List X)
-    → named_blobs (objects_of (numbered make v xs)) ≡ []
+    → own_blobs (objects_of (numbered make v xs)) ≡ []
 none-numbered {X} make h v [] = refl
 none-numbered {X} make h v (x ∷ xs) = rw (h v x, none-numbered make h (v + 1) xs)
 
-none-named : (bytes : List ℕ) (guid : Guid) (v : ℕ) → length bytes ≤ 16777216 → named_blobs (file_objects bytes guid v) ≡ []
+none-named : (bytes : List ℕ) (guid : Guid) (v : ℕ) → length bytes ≤ 16777216 → own_blobs (file_objects bytes guid v) ≡ []
 none-named bytes guid v short =
     let level = leaves bytes guid (v + 1) in
-    let none : named_blobs (objects_of level) ≡ [] = none-numbered (leaf guid) (λ w p. refl) (v + 1) (pieces 65536 bytes) in
+    let none : own_blobs (objects_of level) ≡ [] = none-numbered (leaf guid) (λ w p. refl) (v + 1) (pieces 65536 bytes) in
     elim (cases_lt 64 (div_ceil (length bytes) 65536)) [
       | inl many ↦
           let nodes = numbered (node 0x1F guid) (v + 1 + div_ceil (length bytes) 65536) (pieces 64 level) in
-          let none_above : named_blobs (objects_of nodes) ≡ [] = none-numbered (node 0x1F guid) (λ w p. refl) (v + 1 + div_ceil (length bytes) 65536) (pieces 64 level) in
-          ap named_blobs (all-many bytes guid (v + 1) many short)
+          let none_above : own_blobs (objects_of nodes) ≡ [] = none-numbered (node 0x1F guid) (λ w p. refl) (v + 1 + div_ceil (length bytes) 65536) (pieces 64 level) in
+          ap own_blobs (all-many bytes guid (v + 1) many short)
           ∙ flat_map-append (λ (o : Object). blob_of o.content) (objects_of level) (objects_of nodes)
-          ∙ ap (λ (l : List ExGuid). l ++ named_blobs (objects_of nodes)) none
+          ∙ ap (λ (l : List ExGuid). l ++ own_blobs (objects_of nodes)) none
           ∙ none_above
-      | inr few ↦ ap named_blobs (all-few bytes guid (v + 1) few) ∙ none
+      | inr few ↦ ap own_blobs (all-few bytes guid (v + 1) few) ∙ none
     ]
 
 -- ---- what is added is what is sent
@@ -148,7 +179,7 @@ module _ (objects : List Object) (guid : Guid) (first : ℕ) where
     -- ---- so no reason holds
 
     module _ (bytes : List ℕ) (short : length bytes ≤ most_file) (light : weight_of elements ≤ most_reached_weight)
-        (file_is : file elements (id_of guid first) ≡ Some bytes) (no_blobs : named_blobs objects ≡ []) where
+        (file_is : file elements (id_of guid first) ≡ Some bytes) (no_blobs : own_blobs objects ≡ []) where
       index_said : said as_index elements (id_of guid first) ≡ Some (mappings guid first)
       index_said = said-at objects guid first as_index 0 first (omega arith)
 

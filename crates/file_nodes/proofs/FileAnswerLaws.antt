@@ -24,7 +24,7 @@ use Rattle.file_nodes.proofs.WalkTables.{node_is}
 -- ---- the answer says what it has to
 
 -- a fault is said
-fault_said : (objects : List StoredObject) (root : ExGuid) (fault : NodeFault) → fault ≢ TooLarge → first_fault objects root ≡ Some fault → IsFileAnswer objects root (Err fault)
+pub fault_said : (objects : List StoredObject) (root : ExGuid) (fault : NodeFault) → fault ≢ TooLarge → first_fault objects root ≡ Some fault → IsFileAnswer objects root (Err fault)
 fault_said objects root (Absent id) n e = e
 fault_said objects root TooHigh n e = e
 fault_said objects root (NotANode id) n e = e
@@ -58,17 +58,17 @@ module _ (objects : List StoredObject) (root : ExGuid) where
   abbrev place : ℕ
   place = place_of objects root
 
-  abbrev of_root : FileObject → Option (List ℕ)
+  abbrev pub of_root : FileObject → Option (List ℕ)
   of_root o = cond (eqb (length o.references) 0) (Some []) (node_file (file_below (stored_objects objects) 7) o)
 
   -- the file and the walk of a root that is there
-  file_found : (o : StoredObject) → find_stored objects root ≡ Some o → stored_file objects root ≡ of_root (as_file_object o)
+  pub file_found : (o : StoredObject) → find_stored objects root ≡ Some o → stored_file objects root ≡ of_root (as_file_object o)
   file_found o e = ap (option_and_then of_root) (find_is objects root ∙ ap (option_map as_file_object) e)
 
-  walk_found : (o : StoredObject) → find_stored objects root ≡ Some o → walk_root objects root ≡ walk_from objects o
+  pub walk_found : (o : StoredObject) → find_stored objects root ≡ Some o → walk_root objects root ≡ walk_from objects o
   walk_found o e = ap (λ (p : Option StoredObject). arrived root (option_map (walk_from objects) p)) e
 
-  abbrev walk_node : StoredObject → Result ℕ NodeFault
+  abbrev pub walk_node : StoredObject → Result ℕ NodeFault
   walk_node o = behind o (node_size o.bytes) (total (map (arrive objects (walk objects 7)) o.references))
 
   node_said : (o : StoredObject) → find_stored objects root ≡ Some o → slice_get objects place ≡ Some o → eqb (length o.references) 0 ≡ false → IsFileAnswer objects root (node_answer objects place o)
@@ -145,17 +145,18 @@ module _ (objects : List StoredObject) (root : ExGuid) where
 
 -- ---- the code's cases
 
+-- the object at a root's place has references
+pub has_more : (ids : List ExGuid) → (ids ≡ [] → ⊥) → eqb (length ids) 0 ≡ false
+has_more [] n = absurd (n refl)
+has_more (id ∷ ids) n = grind (arith, nat_tests)
+
 -- the answer at a root with references
 pub at_node : (objects : List StoredObject) (root : ExGuid) (place : ℕ) (top : StoredObject) → place ≡ place_of objects root → place < length objects → top ≡ get_or objects place top
     → (top.references ≡ [] → ⊥) → node_answer objects place top ≡ file_answer objects root
 at_node objects root place top e lt is more =
-    let some : eqb (length top.references) 0 ≡ false = branch top.references more in
+    let some : eqb (length top.references) 0 ≡ false = has_more top.references more in
     let here : slice_get objects place ≡ Some top = slice_get-get_or objects place top lt ∙ ap Some (sym is) in
     sym (ap (λ (b : Bool). cond b (Ok []) (node_answer objects place top)) some) ∙ ap (answer_at objects root place) (sym here) ∙ ap (λ (p : ℕ). answer_at objects root p (slice_get objects p)) e
-  where
-    branch : (ids : List ExGuid) → (ids ≡ [] → ⊥) → eqb (length ids) 0 ≡ false
-    branch [] n = absurd (n refl)
-    branch (id ∷ ids) n = grind (arith, nat_tests)
 
 -- the objects under another name
 pub of_list : (list objects : List StoredObject) (root : ExGuid) (r : Result (List ℕ) NodeFault) → list ≡ objects → IsOrNoMemory r (file_answer list root) → IsOrNoMemory r (file_answer objects root)

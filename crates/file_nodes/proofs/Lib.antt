@@ -7,6 +7,7 @@ pub mod WalkLaws
 pub mod Heights
 pub mod FileJoins
 pub mod FileAnswerLaws
+pub mod LengthLaws
 pub mod PieceLaws
 pub mod PartLaws
 pub mod FindLaws
@@ -15,3 +16,4 @@ pub mod ChunkedFile
 pub mod References
 pub mod ChunkWeight
 pub mod AcceptedFile
+pub mod FewElements

@@ -3,11 +3,13 @@ use Rattle.std.specs.Prelude.{◌≡◌, ℕ, ◌+◌, ◌≤◌, false, List, l
 use Rattle.compact_values.specs.declared.guid.Guid.{Guid}
 use Rattle.compact_values.specs.declared.ids.ExGuid.TheVariants as exguids
 use Rattle.doc_model.specs.declared.call.Put.{Put}
+use Rattle.doc_model.specs.declared.call.Sub.TheVariants as sub
 use Rattle.doc_model.specs.declared.doc.Doc.{Doc}
 use Rattle.doc_model.specs.Apply.{empty_doc}
 use Rattle.doc_model.specs.Files.{file}
 use Rattle.doc_model.specs.Limits.{most_file}
 use Rattle.doc_model.specs.Puts.{put, commit_refusal, committed}
+use Rattle.doc_model.specs.Sound.{IsValidSub}
 use Rattle.file_nodes.specs.declared.chunking.Chunked.{Chunked}
 use Rattle.file_nodes.specs.Chunks.{chunked}
 
@@ -44,3 +46,9 @@ CutFileIsStored =
     (bytes user : List ℕ) (guid own : Guid) (first drawn moment : ℕ) → length bytes ≤ most_file
     → AreDrawn (new_doc own drawn) guid first (chunked bytes guid first).used
     → Stores (new_doc own drawn) moment user (upload (chunked bytes guid first)) bytes
+
+-- The put of such a file may be made, and takes at most 267 ids.
+abbrev pub CutFileMayBePut : Type 0
+CutFileMayBePut =
+    (bytes : List ℕ) (guid : Guid) (first : ℕ) → length bytes ≤ most_file
+    → IsValidSub (sub.Put (upload (chunked bytes guid first))) × ((chunked bytes guid first).used ≤ 267)

@@ -1,5 +1,5 @@
 -- What the reader of a file answers.
-use Rattle.std.specs.Prelude.{◌≡◌, ℕ, ◌<◌, ◌≤◌, ◌⊎◌, List, length, Option, Some, None, Result, Ok, Err}
+use Rattle.std.specs.Prelude.{◌≡◌, ◌≢◌, ℕ, ◌<◌, ◌≤◌, ◌⊎◌, List, length, Option, Some, None, Result, Ok, Err}
 use Rattle.compact_values.specs.declared.ids.ExGuid.{ExGuid}
 use Rattle.doc_model.specs.FileObjects.{root_file}
 use Rattle.file_nodes.specs.FileWalks.{stored_objects, first_fault}
@@ -40,10 +40,26 @@ IsFileAnswer objects root (Err (SizeDiffers said found)) = first_fault objects r
 IsFileAnswer objects root (Err TooLarge) = IsTooLarge objects root
 IsFileAnswer objects root (Err NoMemory) = Unit {0}
 
+-- The same of its length alone: how long the file is, or the fault for which there is none.
+abbrev pub IsLengthAnswer : List StoredObject → ExGuid → Result ℕ NodeFault → Type 0
+IsLengthAnswer objects root (Ok size) = (file : List ℕ) × IsFile objects root file × (size ≡ length file)
+IsLengthAnswer objects root (Err fault) = IsFileAnswer objects root (Err fault)
+
 -- The answer is this one, unless memory was wanting.
-abbrev pub IsOrNoMemory : Result (List ℕ) NodeFault → Result (List ℕ) NodeFault → Type 0
+abbrev pub IsOrNoMemory : {A : Type 0} → Result A NodeFault → Result A NodeFault → Type 0
 IsOrNoMemory answer this = (answer ≡ this) ⊎ (answer ≡ Err NoMemory)
 
 -- The answer is this one exactly where the fact holds, want of memory aside.
-abbrev pub Exactly : Result (List ℕ) NodeFault → Result (List ℕ) NodeFault → Type 0 → Type 0
+abbrev pub Exactly : {A : Type 0} → Result A NodeFault → Result A NodeFault → Type 0 → Type 0
 Exactly answer this Fact = (answer ≡ this → Fact) × (Fact → IsOrNoMemory answer this)
+
+-- the length of what was answered
+abbrev pub length_said : Result (List ℕ) NodeFault → Result ℕ NodeFault
+length_said (Ok file) = Ok (length file)
+length_said (Err fault) = Err fault
+
+-- An answer that says the length is that of any answer that says the file, where memory suffices for both.
+abbrev pub LengthOfTheFile : Type 0
+LengthOfTheFile =
+    (objects : List StoredObject) (root : ExGuid) (size : Result ℕ NodeFault) (file : Result (List ℕ) NodeFault) → IsLengthAnswer objects root size
+    → IsFileAnswer objects root file → size ≢ Err NoMemory → file ≢ Err NoMemory → size ≡ length_said file

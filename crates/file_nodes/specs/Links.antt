@@ -63,6 +63,21 @@ below_table objects = map (walk objects (most_high - 1)) objects
 abbrev pub joined_from : List StoredObject → ℕ → List ℕ
 joined_from objects place = file_from objects (map (filled (below_table objects)) (map (link_of objects) objects)) most_high place
 
+-- the length that a walk found, where a file may be as long
+abbrev pub sized_by : Result ℕ NodeFault → Result ℕ NodeFault
+sized_by (Ok size) = if nat_lt 16777216 size then Err TooLarge else Ok size
+sized_by (Err fault) = Err fault
+
+abbrev pub node_length : List StoredObject → StoredObject → Result ℕ NodeFault
+node_length objects o = sized_by (node_by (below_table objects) o (link_of objects o))
+
+abbrev pub length_at : List StoredObject → ExGuid → Option StoredObject → Result ℕ NodeFault
+length_at objects root None = Err (Absent root)
+length_at objects root (Some o) = if length o.references == 0 then Ok 0 else node_length objects o
+
+abbrev pub length_answer : List StoredObject → ExGuid → Result ℕ NodeFault
+length_answer objects root = length_at objects root (slice_get objects (place_of objects root))
+
 -- the answer by the walk and the file
 abbrev pub answer_by : Result ℕ NodeFault → List ℕ → Result (List ℕ) NodeFault
 answer_by (Ok size) file = if nat_lt 16777216 size then Err TooLarge else Ok file

@@ -7,10 +7,10 @@ ghost use Rattle.compact_values.specs.declared.guid.Guid.{Guid};
 ghost use Rattle.compact_values.specs.declared.ids.ExGuid.{ExGuid};
 ghost use Rattle.doc_model.specs.FileObjects.{root_file};
 ghost use Rattle.doc_model.specs.Files.{file};
-ghost use Rattle.file_nodes.specs.ChunkLaws.{CutFileIsStored};
+ghost use Rattle.file_nodes.specs.ChunkLaws.{CutFileIsStored, CutFileMayBePut};
 ghost use Rattle.file_nodes.specs.Chunking.{file_objects};
 ghost use Rattle.file_nodes.specs.Chunks.{chunked};
-ghost use Rattle.file_nodes.specs.FileAnswers.{Agrees};
+ghost use Rattle.file_nodes.specs.FileAnswers.{Agrees, LengthOfTheFile};
 ghost use Rattle.file_nodes.specs.FileWalks.{stored_objects, walk_root};
 ghost use Rattle.file_nodes.specs.declared.object_map.StoredObject.{StoredObject};
 
@@ -32,4 +32,14 @@ pub fn at_most_64_references()
 /// A file of at most 16 MiB that is cut is accepted as the first put of a document, whose file it then is.
 pub fn a_cut_file_is_accepted()
     ensures { CutFileIsStored }
+{}
+
+/// The put of a file of at most 16 MiB that is cut may be made, and takes at most 267 ids.
+pub fn a_cut_file_may_be_put()
+    ensures { CutFileMayBePut }
+{}
+
+/// `file_length` answers the length of what `file_of` answers.
+pub fn the_length_is_that_of_the_file()
+    ensures { LengthOfTheFile }
 {}

@@ -2,6 +2,7 @@
 //!
 //! - `object_map`: the objects that a file is made of
 //! - `file`: the file that they stand for
+//! - `lengths`: how long it is
 //! - `fault`: why they stand for none
 //! - `node`: nodes as they are read
 //! - `places`, `links`: what each object refers to, by places
@@ -20,6 +21,7 @@ mod file_elements;
 mod file_objects;
 mod join;
 pub mod laws;
+mod lengths;
 mod links;
 mod node;
 mod object_map;
@@ -29,6 +31,7 @@ mod walks;
 pub use chunking::{Chunked, chunk};
 pub use fault::NodeFault;
 pub use file::file_of;
+pub use lengths::file_length;
 pub use object_map::{ObjectMap, StoredObject};
 
 #[cfg(test)]
