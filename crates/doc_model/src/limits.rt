@@ -1,7 +1,7 @@
 //! The limits of a document. Definitions and code cite them; they stand nowhere else.
 
-/// How many stream objects may be written for one element.
-pub const MOST_OBJECTS: u64 = 262_144;
+/// How many stream objects may be written for one element: as many as a tree may have.
+pub const MOST_OBJECTS: u64 = stream_objects::MOST_OBJECTS as u64;
 
 /// How many elements a document may have.
 pub const MOST_ADDED: usize = 200_000;

@@ -10,6 +10,7 @@ use Rattle.stream_objects.specs.declared.headers.Header.{Header}
 use Rattle.stream_objects.specs.declared.headers.Header.TheVariants.{Start, End}
 use Rattle.stream_objects.specs.declared.tree.Tree.{Tree}
 use Rattle.stream_objects.specs.declared.tree.Tree.TheViews.{roll-Tree}
+use Rattle.stream_objects.specs.declared.limits.TheConstants.{MOST_LEVELS, MOST_OBJECTS}
 
 -- an object whose fields stand in the input
 pub record Started : Type 0 where
@@ -62,8 +63,8 @@ object_at (suc levels) input place = option_and_then (whole_object (object_at le
 
 -- the object, where it ends with the input and isn't too large
 abbrev pub if_whole : List ℕ → Tree × ℕ → Option Tree
-if_whole bytes (tree, next) = if next == length bytes && nat_le (objects tree) 262144 then Some tree else None
+if_whole bytes (tree, next) = if next == length bytes && nat_le (objects tree) MOST_OBJECTS then Some tree else None
 
 -- the tree that the bytes are
 unfoldable pub tree_of : List ℕ → Option Tree
-tree_of bytes = option_and_then (if_whole bytes) (object_at 12 bytes 0)
+tree_of bytes = option_and_then (if_whole bytes) (object_at MOST_LEVELS bytes 0)

@@ -1,5 +1,6 @@
 //! Stream objects (MS-FSSHTTPB 2.2.1.5): the headers that open and close an object, and trees of objects.
 //!
+//! - `limits`: how large a tree may be
 //! - `headers`: start and end headers, written and read
 //! - `tree`: an object with its children, as it was read
 //! - `fault`: why no tree could be read
@@ -12,6 +13,7 @@
 mod fault;
 mod headers;
 pub mod laws;
+mod limits;
 mod objects;
 mod reading;
 mod tree;
@@ -19,6 +21,7 @@ mod written;
 
 pub use fault::TreeFault;
 pub use headers::{finish, start};
+pub use limits::{MOST_LEVELS, MOST_OBJECTS};
 pub use objects::{compound_fields, fields_of, has_no_child, only_child, simple_fields};
 pub use reading::read_tree;
 pub use tree::{Tree, Trees};
