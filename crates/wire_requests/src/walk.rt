@@ -5,10 +5,7 @@ ghost use Rattle.stream_objects.specs.Objects.{is_kind};
 ghost use Rattle.doc_model.specs.Walks.{below};
 ghost use Rattle.wire_requests.specs.WalkReading.{first_of, first_among};
 
-use stream_objects::Tree;
-
-/// How many levels of objects there may be.
-const LEVELS: usize = 12;
+use stream_objects::{MOST_LEVELS, Tree};
 
 // The first object of a type in a walk of this tree, down to so many levels.
 #[tactic(auto, unfolding(crate::specs::WalkReading::first_of))]
@@ -44,5 +41,5 @@ fn first_among(levels: usize, kind: u16, trees: &[Tree]) -> Option<&Tree>
 pub fn first_below(tree: &Tree, kind: u16) -> Option<&Tree>
     ensures { option_copied result ≡ find (is_kind kind) (below tree.now) }
 {
-    first_among(LEVELS, kind, tree.children.as_slice())
+    first_among(MOST_LEVELS, kind, tree.children.as_slice())
 }
