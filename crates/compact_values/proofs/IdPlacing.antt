@@ -1,19 +1,32 @@
 -- The places of extended GUIDs in a list that grows at its end.
-use Rattle.std.proofs.Common.{◌≡◌, ℕ, suc, refl, sym, ◌∙◌, ap, Bool, true, false, cond, ◌||◌, List, [], ◌∷◌, ◌++◌, length, Option, Some, None, option_map, is_some}
+use Rattle.std.proofs.Common.{◌≡◌, nat_eq, ◌&&◌, arith, ℕ, suc, refl, sym, ◌∙◌, ap, Bool, true, false, cond, ◌||◌, List, [], ◌∷◌, ◌++◌, length, Option, Some, None, option_map, is_some}
+use Rattle.std.proofs.lemmas.Bool.Decides.{nat_tests}
 use Rattle.std.specs.List.{list_any}
+use Rattle.std.specs.declared.cmp.Ordering.{Ordering}
+use Rattle.std.specs.declared.cmp.Ordering.TheVariants.{Less, Equal, Greater}
+use Rattle.std.specs.Ordering.{is_eq, nat_cmp, ordering_then}
 use Rattle.std.specs.Option.{option_or}
 use Rattle.compact_values.specs.declared.ids.ExGuid.{ExGuid}
 use Rattle.compact_values.specs.declared.ids.ExGuid.TheVariants.{Null, Id}
-use Rattle.compact_values.specs.IdPlaces.{place_of, key_of, same_key}
+use Rattle.compact_values.specs.IdPlaces.{place_of, key_of, key_order}
 use Rattle.compact_values.specs.SameIds.{same_id}
 use Rattle.compact_values.proofs.SameIds.{id-same, id-swap}
 
--- keys are compared as ids are
-pub key-same : (a b : ExGuid) → same_key (key_of a) (key_of b) ≡ same_id a b
+-- numbers are equal where neither comes first
+compared : (a b : ℕ) → is_eq (nat_cmp a b) ≡ nat_eq a b
+compared a b = grind (arith, nat_tests)
+
+-- keys are equal as ids are
+pub key-same : (a b : ExGuid) → is_eq (key_order (key_of a) (key_of b)) ≡ same_id a b
 key-same Null Null = refl
 key-same Null (Id g v) = refl
 key-same (Id g v) Null = refl
-key-same (Id g v) (Id h w) = refl
+key-same (Id g v) (Id h w) = both (nat_cmp g.number h.number) (nat_cmp v w) ∙ ap (λ b. b && is_eq (nat_cmp v w)) (compared g.number h.number) ∙ ap (λ b. nat_eq g.number h.number && b) (compared v w)
+  where
+    both : (o p : Ordering) → is_eq (ordering_then o p) ≡ (is_eq o && is_eq p)
+    both Less p = refl
+    both Equal p = refl
+    both Greater p = refl
 
 module _ (y q : ExGuid) where
   -- the place of q where y is at n, and is the only one left

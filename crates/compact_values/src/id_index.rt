@@ -8,14 +8,16 @@ use crate::fault::NoMemory;
 use crate::ids::{ExGuid, Ids};
 use crate::seq::Seq;
 use std::alloc::Global;
-use std::collections::HashMap;
+use std::collections::BTreeMap;
 use std::marker::Model;
 
-/// A list of extended GUIDs that finds the first place of an id without looking through the list.
+/// A list of extended GUIDs that finds the first place of an id without looking through the list. The ids are those of
+/// clients, who could choose them so that a hash of theirs is the same: so they stand in order and aren't hashed, and no
+/// choice makes a search long.
 #[derive(Drop)]
 pub struct IdIndex {
     ids: Ids,
-    places: HashMap<Option<(u128, u32)>, usize>,
+    places: BTreeMap<Option<(u128, u32)>, usize>,
 }
 
 impl Model for IdIndex {
@@ -47,7 +49,7 @@ impl IdIndex {
     {
         IdIndex {
             ids: Seq::new(alloc),
-            places: HashMap::new(alloc),
+            places: BTreeMap::new(alloc),
         }
     }
 

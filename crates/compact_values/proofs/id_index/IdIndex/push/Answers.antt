@@ -1,6 +1,7 @@
 use Rattle.std.proofs.Common.{◌≡◌, sym, ◌∙◌, ap, cond, None, Some, length}
-use Rattle.std.specs.HashMap.{get}
-use Rattle.compact_values.specs.IdPlaces.{place_of, key_of, same_key}
+use Rattle.std.specs.BTreeMap.{get}
+use Rattle.std.specs.Ordering.{is_eq}
+use Rattle.compact_values.specs.IdPlaces.{place_of, key_of, key_order}
 use Rattle.compact_values.specs.SameIds.{same_id}
 use Rattle.compact_values.proofs.IdPlacing.{new-joins, first-stays, key-same}
 use Rattle.compact_values.proofs.id_index.IdIndex.push.Goals as goal
@@ -12,12 +13,12 @@ invariant_of-self-in-Ok-None c =
     let places = c.self.inside.places in
     let id = c.args.id in
     let new : place_of ids id ≡ None =
-    sym (c.self.invariant id) ∙ ap (get same_key places) (sym c.key_of-key.ensures) ∙ sym c.in-Ok-None.ensures.old ∙ c.in-Ok-None.field-0-is in
+    sym (c.self.invariant id) ∙ ap (get key_order places) (sym c.key_of-key.ensures) ∙ sym c.in-Ok-None.ensures.old ∙ c.in-Ok-None.field-0-is in
     λ q.
     c.in-Ok-None.ensures.updates.0 (key_of q)
-    ∙ ap (λ k. cond (same_key k (key_of q)) (Some c.len-place.result) (get same_key places (key_of q))) c.key_of-key.ensures
-    ∙ ap (λ b. cond b (Some c.len-place.result) (get same_key places (key_of q))) (key-same id q)
-    ∙ ap (λ n. cond (same_id id q) (Some n) (get same_key places (key_of q))) c.len-place.ensures
+    ∙ ap (λ k. cond (is_eq (key_order k (key_of q))) (Some c.len-place.result) (get key_order places (key_of q))) c.key_of-key.ensures
+    ∙ ap (λ b. cond b (Some c.len-place.result) (get key_order places (key_of q))) (key-same id q)
+    ∙ ap (λ n. cond (same_id id q) (Some n) (get key_order places (key_of q))) c.len-place.ensures
     ∙ ap (λ o. cond (same_id id q) (Some (length ids)) o) (c.self.invariant q)
     ∙ sym (new-joins ids id q new)
     ∙ ap (λ xs. place_of xs q) (sym c.in_ok-push.ensures.ok)
@@ -29,12 +30,12 @@ invariant_of-self-in-Ok-Some c =
     let places = c.self.inside.places in
     let id = c.args.id in
     let known : place_of ids id ≡ Some c.in-Ok-Some.first =
-    sym (c.self.invariant id) ∙ ap (get same_key places) (sym c.key_of-key.ensures) ∙ sym c.in-Ok-Some.ensures.old ∙ c.in-Ok-Some.field-0-is in
+    sym (c.self.invariant id) ∙ ap (get key_order places) (sym c.key_of-key.ensures) ∙ sym c.in-Ok-Some.ensures.old ∙ c.in-Ok-Some.field-0-is in
     λ q.
     c.in-Ok.ensures.updates.0 (key_of q)
-    ∙ ap (λ o. cond (same_key c.key_of-key.result (key_of q)) (Some c.in-Ok-Some.first) o) (c.in-Ok-Some.ensures.updates.0 (key_of q))
-    ∙ ap (λ k. cond (same_key k (key_of q)) (Some c.in-Ok-Some.first) (cond (same_key k (key_of q)) (Some c.len-place.result) (get same_key places (key_of q)))) c.key_of-key.ensures
-    ∙ ap (λ b. cond b (Some c.in-Ok-Some.first) (cond b (Some c.len-place.result) (get same_key places (key_of q)))) (key-same id q)
+    ∙ ap (λ o. cond (is_eq (key_order c.key_of-key.result (key_of q))) (Some c.in-Ok-Some.first) o) (c.in-Ok-Some.ensures.updates.0 (key_of q))
+    ∙ ap (λ k. cond (is_eq (key_order k (key_of q))) (Some c.in-Ok-Some.first) (cond (is_eq (key_order k (key_of q))) (Some c.len-place.result) (get key_order places (key_of q)))) c.key_of-key.ensures
+    ∙ ap (λ b. cond b (Some c.in-Ok-Some.first) (cond b (Some c.len-place.result) (get key_order places (key_of q)))) (key-same id q)
     ∙ ap (λ o. cond (same_id id q) (Some c.in-Ok-Some.first) (cond (same_id id q) (Some c.len-place.result) o)) (c.self.invariant q)
     ∙ first-stays ids id q c.in-Ok-Some.first c.len-place.result known
     ∙ ap (λ xs. place_of xs q) (sym c.in_ok-push.ensures.ok)
