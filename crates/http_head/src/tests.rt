@@ -117,12 +117,80 @@ fn fields_are_judged_in_order(rt: HostRuntime) -> Result<(), Fail> {
             "Content-Length: 5\r\nX-Cell-User: 01234567890123456789012345678901234567890123456789012345678901234\r\n",
             400,
         ),
+        ("Content-Length : 5\r\n", 400),
+        ("Content-Length: 5\r\n 6\r\n", 400),
+        ("Content-Length: +5\r\n", 400),
+        ("Content-Length: -5\r\n", 400),
+        ("Content-Length: 5, 5\r\n", 400),
+        ("Content-Length:\r\n", 400),
+        ("Content-Length: 0005\r\n", 200),
+        ("Content-Length: 0x5\r\n", 400),
+        ("Content-Length: 5 5\r\n", 400),
+        ("Content-Length: 5\t\r\n", 200),
+        ("Content-Length: 5\r\r\n", 400),
+        ("Content-Length: 5\rX: y\r\n", 400),
+        ("Content-Length: 5\u{0}\r\n", 400),
+        ("Content-Length: 5\n", 200),
+        ("Content-Length: 999999999999999999\r\n", 413),
+        ("Transfer-Encoding: chunked, chunked\r\n", 400),
+        (
+            "Transfer-Encoding: chunked\r\nTransfer-Encoding: chunked\r\n",
+            400,
+        ),
+        ("Transfer-Encoding: identity\r\nContent-Length: 5\r\n", 400),
+        ("Transfer-Encoding: \u{b}chunked\r\n", 400),
+        ("Transfer-Encoding: chunked;q=1\r\n", 400),
+        ("Transfer-Encoding:\r\nContent-Length: 5\r\n", 400),
+        ("Transfer_Encoding: chunked\r\nContent-Length: 5\r\n", 200),
+        (" Content-Length: 5\r\n", 400),
+        (": 5\r\nContent-Length: 5\r\n", 400),
+        ("Content-Length\r\nContent-Length: 5\r\n", 400),
+        ("Content-Length: 5\r\nX-Cell-User: \u{e9}\r\n", 400),
+        (
+            "Content-Length: 5\r\nContent-Type: application/json\r\nContent-Type: text/xml\r\n",
+            415,
+        ),
     ] {
         let mut head = String::new(rt.alloc());
         head.push_str("POST /x/_vti_bin/cellstorage.svc/CellStorageService HTTP/1.1\r\n")?;
         head.push_str(fields)?;
         head.push_str("\r\n")?;
         assert_eq!(rt; status_of(head.as_str(), &names), status, "{fields}");
+    }
+    Ok(())
+}
+
+#[test]
+fn heads_are_judged_whole(rt: HostRuntime) -> Result<(), Fail> {
+    let names = names_of(rt.alloc(), "a.docx")?;
+    for (head, status) in [
+        (
+            "GET /_front/a.docx HTTP/1.0\r\nTransfer-Encoding: chunked\r\n\r\n",
+            400,
+        ),
+        (
+            "POST /_vti_bin/cellstorage.svc/CellStorageService HTTP/1.0\r\nTransfer-Encoding: chunked\r\n\r\n",
+            200,
+        ),
+        ("GET http://h/_front/a.docx HTTP/1.1\r\n\r\n", 404),
+        ("GET /_front/a.docx HTTP/1.2\r\n\r\n", 400),
+        ("GET  /_front/a.docx HTTP/1.1\r\n\r\n", 400),
+        ("GET /_front/a.docx  HTTP/1.1\r\n\r\n", 400),
+        ("GET /_front/a.docx\r\n\r\n", 400),
+        ("GET\t/_front/a.docx HTTP/1.1\r\n\r\n", 400),
+        ("get /_front/a.docx HTTP/1.1\r\n\r\n", 405),
+        (
+            "GET /_front/a.docx HTTP/1.1\r\nHost: a\r\nHost: b\r\n\r\n",
+            200,
+        ),
+        ("GET /_front/%00.docx HTTP/1.1\r\n\r\n", 404),
+        ("GET /_front/a.docx#x HTTP/1.1\r\n\r\n", 404),
+        (
+            "GET /_front/a.docx HTTP/1.1\r\nContent-Length: 000\r\n\r\n",
+            200,
+        ),
+    ] {
+        assert_eq!(rt; status_of(head, &names), status, "{head}");
     }
     Ok(())
 }
@@ -177,6 +245,24 @@ fn chunks_out_of_form_are_refused(rt: HostRuntime) -> Result<(), Fail> {
         ("1\r\nab", Fed::Bad { status: 400 }),
         ("1\r\na\r\r", Fed::Bad { status: 400 }),
         ("0\r\nA: b\r\n\r\n", Fed::Bad { status: 400 }),
+        ("\r\n", Fed::Bad { status: 400 }),
+        (";a\r\n", Fed::Bad { status: 400 }),
+        (" 5\r\n", Fed::Bad { status: 400 }),
+        ("+5\r\n", Fed::Bad { status: 400 }),
+        ("-5\r\n", Fed::Bad { status: 400 }),
+        ("0x5\r\n", Fed::Bad { status: 400 }),
+        ("5 5\r\n", Fed::Bad { status: 400 }),
+        ("5_0\r\n", Fed::Bad { status: 400 }),
+        ("0000000000000005\r\n", Fed::More),
+        ("00000000000000005\r\n", Fed::Bad { status: 400 }),
+        ("ffffffffffffffff\r\n", Fed::Bad { status: 413 }),
+        ("10000000000000000\r\n", Fed::Bad { status: 400 }),
+        ("5;a\nb\r\n", Fed::Bad { status: 400 }),
+        ("5;a\rb\r\n", Fed::Bad { status: 400 }),
+        ("5;a\u{0}b\r\n", Fed::More),
+        ("5\u{0}\r\n", Fed::Bad { status: 400 }),
+        ("0\r\n\n", Fed::Bad { status: 400 }),
+        ("1\r\na\n", Fed::Bad { status: 400 }),
     ] {
         let mut body = BodyReader::new(rt.alloc(), Framing::Chunks);
         assert_eq!(rt; body.feed(chunks.as_bytes())?, fed, "{chunks}");
