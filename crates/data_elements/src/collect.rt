@@ -50,7 +50,12 @@ pub fn collect<R: Decode>(
 }
 
 /// What the only child of a type says.
-pub fn only<R: Decode>(alloc: Global, bytes: &[u8], tree: &Tree, kind: u16) -> Result<R, ElementFault>
+pub fn only<R: Decode>(
+    alloc: Global,
+    bytes: &[u8],
+    tree: &Tree,
+    kind: u16,
+) -> Result<R, ElementFault>
     ensures { Gives result (only kind (row_at R.takes) bytes.now tree.now) }
 {
     let Some(child) = only_child(tree, kind) else {

@@ -52,10 +52,20 @@ impl Decode for CellMap {
     ghost exact = { cell_code.exact };
 
     fn decode(alloc: Global, bytes: &[u8]) -> Result<Option<(CellMap, &[u8])>, NoMemory> {
-        let Some(((cell, (target, serial)), rest)) = <(CellId, (ExGuid, Serial))>::decode(alloc, bytes)? else {
+        let Some(((cell, (target, serial)), rest)) = <(CellId, (ExGuid, Serial))>::decode(
+            alloc, bytes,
+        )?
+        else {
             return Ok(None);
         };
-        Ok(Some((CellMap { cell, target, serial }, rest)))
+        Ok(Some((
+            CellMap {
+                cell,
+                target,
+                serial,
+            },
+            rest,
+        )))
     }
 }
 
@@ -78,10 +88,20 @@ impl Decode for RevisionMap {
     ghost exact = { revision_code.exact };
 
     fn decode(alloc: Global, bytes: &[u8]) -> Result<Option<(RevisionMap, &[u8])>, NoMemory> {
-        let Some(((revision, (target, serial)), rest)) = <(ExGuid, (ExGuid, Serial))>::decode(alloc, bytes)? else {
+        let Some(((revision, (target, serial)), rest)) = <(ExGuid, (ExGuid, Serial))>::decode(
+            alloc, bytes,
+        )?
+        else {
             return Ok(None);
         };
-        Ok(Some((RevisionMap { revision, target, serial }, rest)))
+        Ok(Some((
+            RevisionMap {
+                revision,
+                target,
+                serial,
+            },
+            rest,
+        )))
     }
 }
 

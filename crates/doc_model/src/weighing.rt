@@ -130,11 +130,7 @@ fn body_weight(body: &Body) -> u128
             manifests,
             cells,
             revisions,
-        } => index_weight(
-            manifests.as_slice(),
-            cells.as_slice(),
-            revisions.as_slice(),
-        ),
+        } => index_weight(manifests.as_slice(), cells.as_slice(), revisions.as_slice()),
         Body::Storage { schema, roots } => storage_weight(schema, roots.as_slice()),
         Body::Cell { current } => current_weight(current),
         Body::Revision {
