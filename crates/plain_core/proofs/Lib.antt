@@ -1,4 +1,5 @@
 pub mod AlongBases
+pub mod LinkSteps
 pub mod FoundPlaces
 pub mod Growing
 pub mod SentSerials

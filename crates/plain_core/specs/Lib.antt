@@ -8,3 +8,4 @@ pub mod Uploading
 pub mod Filing
 pub mod Refusing
 pub mod Reaching
+pub mod Naming

@@ -6,9 +6,9 @@ ghost use Rattle.doc_model.specs.Reached.{chain, longest};
 ghost use Rattle.plain_core.specs.Cataloging.{listed};
 
 use crate::catalog::Catalog;
-use crate::naming::{cells_of, currents_of, manifest_of};
+use crate::naming::{cells_of, currents_of};
+use crate::revisions::Revisions;
 use compact_values::{ExGuid, NoMemory};
-use doc_model::RevisionMap;
 use std::alloc::Global;
 
 /// Whether the index is there, and each of its chains of bases ends.
@@ -20,15 +20,16 @@ pub fn has_chains(alloc: Global, catalog: &Catalog<'_>, index: ExGuid) -> Result
     };
     let cells = cells_of(alloc, maps.cells.as_slice())?;
     let currents = currents_of(alloc, catalog, cells.as_slice())?;
-    Ok(all_end(catalog, maps.revisions.as_slice(), currents.as_slice()))
+    let revisions = Revisions::new(alloc, maps.revisions.as_slice())?;
+    Ok(all_end(catalog, &revisions, currents.as_slice()))
 }
 
 // Whether the chains of these revisions end.
-fn all_end(catalog: &Catalog<'_>, maps: &[RevisionMap], revisions: &[ExGuid]) -> bool
-    ensures { result ≡ list_all (λ r. is_some (chain (listed catalog.now) maps.now longest r)) revisions.now }
+fn all_end(catalog: &Catalog<'_>, revisions: &Revisions<'_>, currents: &[ExGuid]) -> bool
+    ensures { result ≡ list_all (λ r. is_some (chain (listed catalog.now) revisions.now.maps.now longest r)) currents.now }
 {
-    for revision in revisions {
-        if !ends(catalog, maps, *revision) {
+    for revision in currents {
+        if !ends(catalog, revisions, *revision) {
             return false;
         }
     }
@@ -36,15 +37,15 @@ fn all_end(catalog: &Catalog<'_>, maps: &[RevisionMap], revisions: &[ExGuid]) ->
 }
 
 // Whether the chain of a revision ends: it and its bases are all there, and are at most 1,024.
-fn ends(catalog: &Catalog<'_>, maps: &[RevisionMap], revision: ExGuid) -> bool
-    ensures { result ≡ is_some (chain (listed catalog.now) maps.now longest revision) }
+fn ends(catalog: &Catalog<'_>, revisions: &Revisions<'_>, revision: ExGuid) -> bool
+    ensures { result ≡ is_some (chain (listed catalog.now) revisions.now.maps.now longest revision) }
 {
     let mut left = 1024_usize;
     let mut at = revision;
     while left > 0 {
         match at {
             ExGuid::Null => return true,
-            ExGuid::Id { .. } => match manifest_of(catalog, maps, at) {
+            ExGuid::Id { .. } => match revisions.manifest(catalog, at) {
                 None => return false,
                 Some(m) => {
                     at = m.base;

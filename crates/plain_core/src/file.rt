@@ -9,10 +9,10 @@ ghost use Rattle.plain_core.specs.Filing.{IsFiled, without_file, stored, objects
 ghost use Rattle.plain_core.specs.Sayings.{seen_mappings, seen_manifest};
 
 use crate::catalog::Catalog;
-use crate::naming::manifest_of;
+use crate::revisions::Revisions;
 use crate::sayings::{Manifest, Mappings};
 use compact_values::{CellId, ExGuid, NoMemory, Octets};
-use doc_model::{CellMap, Content, Object, RevisionMap};
+use doc_model::{CellMap, Content, Object};
 use file_nodes::{NodeFault, ObjectMap, file_of};
 use std::alloc::Global;
 
@@ -51,7 +51,11 @@ fn root_chain<'a>(
     };
     match current_revision(catalog, maps) {
         None => Ok(None),
-        Some(revision) => chain(alloc, catalog, maps.revisions.as_slice(), revision),
+        Some(revision) => {
+            let revisions = Revisions::new(alloc, maps.revisions.as_slice())?;
+            let manifests = chain(alloc, catalog, &revisions, revision)?;
+            Ok(manifests)
+        }
     }
 }
 
@@ -86,10 +90,10 @@ fn current_of_cell(catalog: &Catalog<'_>, cells: &[CellMap], cell: CellId) -> Op
 fn chain<'a>(
     alloc: Global,
     catalog: &'a Catalog<'_>,
-    maps: &[RevisionMap],
+    revisions: &Revisions<'_>,
     revision: ExGuid,
 ) -> Result<Option<Vec<Manifest<'a>>>, NoMemory>
-    ensures { IfOk result (λ all. option_map (λ ms. map seen_manifest ms.items) all ≡ chain (listed catalog.now) maps.now longest revision) }
+    ensures { IfOk result (λ all. option_map (λ ms. map seen_manifest ms.items) all ≡ chain (listed catalog.now) revisions.now.maps.now longest revision) }
 {
     let mut all = Vec::new(alloc);
     let mut left = 1024_usize;
@@ -97,7 +101,7 @@ fn chain<'a>(
     while left > 0 {
         match at {
             ExGuid::Null => return Ok(Some(all)),
-            ExGuid::Id { .. } => match manifest_of(catalog, maps, at) {
+            ExGuid::Id { .. } => match revisions.manifest(catalog, at) {
                 None => return Ok(None),
                 Some(m) => {
                     let Ok(()) = all.push(m) else {

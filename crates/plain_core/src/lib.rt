@@ -5,7 +5,9 @@
 //! - `checking`: whether the elements of an upload may be added
 //! - `content`: why what an index says refuses an upload
 //! - `file`: the file at an index
+//! - `links`: the revisions, groups and blobs that an index names, each once
 //! - `naming`: what an index names
+//! - `once`: a list of ids, each of them once
 //! - `plain`: the document, its plans and what settles them
 //! - `plan_edit`: planning a step of the table of editors
 //! - `plan_lock`: planning a step of the lock
@@ -15,6 +17,7 @@
 //! - `pull`: what a client lacks, and what it knows then
 //! - `put`: what an upload meets, and the first reasons to refuse it
 //! - `reaching`: what is reached from an index, and whether it is too much
+//! - `revisions`: the mappings of revisions, found by their revisions
 //! - `sayings`: what elements say, borrowed
 //! - `serials`: the serial numbers of what was sent
 //! - `uploads`: the uploads that aren't complete
@@ -30,7 +33,9 @@ mod editor_tests;
 mod file;
 #[cfg(test)]
 mod history_tests;
+mod links;
 mod naming;
+mod once;
 mod plain;
 mod plan_edit;
 mod plan_lock;
@@ -40,6 +45,7 @@ mod plan_restore;
 mod pull;
 mod put;
 mod reaching;
+mod revisions;
 mod sayings;
 mod serials;
 #[cfg(test)]

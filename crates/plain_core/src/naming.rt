@@ -7,126 +7,12 @@ ghost use Rattle.plain_core.specs.Cataloging.{listed};
 ghost use Rattle.plain_core.specs.Sayings.{seen_mappings, seen_manifest};
 
 use crate::catalog::Catalog;
-use crate::sayings::{Manifest, Mappings};
+use crate::links::{name_blobs, name_groups, name_revisions};
+use crate::revisions::Revisions;
+use crate::sayings::Mappings;
 use compact_values::{ExGuid, Ids, NoMemory, Seq};
-use doc_model::{CellMap, CellMaps, Content, ManifestMap, Name, Namings, Object, RevisionMap};
+use doc_model::{CellMap, CellMaps, ManifestMap, Name, Namings};
 use std::alloc::Global;
-
-/// The mapping of a revision: of several the first counts.
-fn mapping_of(maps: &[RevisionMap], revision: ExGuid) -> Option<&RevisionMap>
-    ensures { option_copied result ≡ mapping_of maps.now revision }
-{
-    maps.iter().find(|m| m.revision.is(revision))
-}
-
-/// The manifest of a revision that is mapped and there.
-pub fn manifest_of<'a>(
-    catalog: &'a Catalog<'_>,
-    maps: &[RevisionMap],
-    revision: ExGuid,
-) -> Option<Manifest<'a>>
-    ensures { option_map seen_manifest result ≡ manifest_of (listed catalog.now) maps.now revision }
-{
-    match mapping_of(maps, revision) {
-        None => None,
-        Some(m) => catalog.revision_at(m.target),
-    }
-}
-
-/// The base of a revision, null where it has no manifest.
-fn base_of(catalog: &Catalog<'_>, maps: &[RevisionMap], revision: ExGuid) -> ExGuid
-    ensures { result ≡ base_of (manifest_of (listed catalog.now) maps.now revision) }
-{
-    match manifest_of(catalog, maps, revision) {
-        None => ExGuid::Null,
-        Some(m) => m.base,
-    }
-}
-
-/// Names a revision and, in turn, the bases.
-fn name_along(
-    catalog: &Catalog<'_>,
-    maps: &[RevisionMap],
-    named: &mut Ids,
-    revision: ExGuid,
-) -> Result<(), NoMemory>
-    ensures { OnOk result (named.new ≡ named.old ++ named_along (listed catalog.now) maps.now (enough maps.now) revision) }
-{
-    let mut left = 1024 + maps.len() + 1;
-    let mut at = revision;
-    while left > 0 {
-        match at {
-            ExGuid::Null => return Ok(()),
-            ExGuid::Id { .. } => {
-                named.push(at)?;
-                at = base_of(catalog, maps, at);
-                left -= 1;
-            }
-        }
-    }
-    Ok(())
-}
-
-/// Names the revisions, cell by cell.
-fn name_revisions(
-    alloc: Global,
-    catalog: &Catalog<'_>,
-    maps: &[RevisionMap],
-    currents: &[ExGuid],
-) -> Result<Ids, NoMemory>
-    ensures { IfOk result (λ named. named ≡ named_revisions (listed catalog.now) maps.now currents.now) }
-{
-    let mut named = Seq::new(alloc);
-    for current in currents {
-        name_along(catalog, maps, &mut named, *current)?;
-    }
-    Ok(named)
-}
-
-/// The groups that the revisions name.
-fn name_groups(
-    alloc: Global,
-    catalog: &Catalog<'_>,
-    maps: &[RevisionMap],
-    revisions: &[ExGuid],
-) -> Result<Ids, NoMemory>
-    ensures { IfOk result (λ groups. groups ≡ flat_map (groups_of (listed catalog.now) maps.now) revisions.now) }
-{
-    let mut groups = Seq::new(alloc);
-    for revision in revisions {
-        match manifest_of(catalog, maps, *revision) {
-            None => {}
-            Some(m) => groups.extend_from_slice(m.groups.as_slice())?,
-        }
-    }
-    Ok(groups)
-}
-
-/// Adds the blobs that a group's objects name.
-fn name_blobs_of(objects: &[Object], blobs: &mut Ids) -> Result<(), NoMemory>
-    ensures { OnOk result (blobs.new ≡ blobs.old ++ flat_map (λ o. blob_of o.content) objects.now) }
-{
-    for object in objects {
-        match &object.content {
-            Content::Inline { .. } => {}
-            Content::Apart { blob } => blobs.push(*blob)?,
-        }
-    }
-    Ok(())
-}
-
-fn name_blobs(alloc: Global, catalog: &Catalog<'_>, groups: &[ExGuid]) -> Result<Ids, NoMemory>
-    ensures { IfOk result (λ blobs. blobs ≡ flat_map (blobs_of (listed catalog.now)) groups.now) }
-{
-    let mut blobs = Seq::new(alloc);
-    for group in groups {
-        match catalog.group_at(*group) {
-            None => {}
-            Some(objects) => name_blobs_of(objects.as_slice(), &mut blobs)?,
-        }
-    }
-    Ok(blobs)
-}
 
 /// Of two mappings of one cell the first.
 pub fn cells_of(alloc: Global, cells: &[CellMap]) -> Result<CellMaps, NoMemory>
@@ -200,11 +86,11 @@ fn blob_name(catalog: &Catalog<'_>, blob: ExGuid) -> Name
     }
 }
 
-fn revision_name(catalog: &Catalog<'_>, maps: &[RevisionMap], revision: ExGuid) -> Name
-    ensures { result ≡ revision_name (listed catalog.now) maps.now revision }
+fn revision_name(catalog: &Catalog<'_>, revisions: &Revisions<'_>, revision: ExGuid) -> Name
+    ensures { result ≡ revision_name (listed catalog.now) revisions.now.maps.now revision }
 {
-    let found = manifest_of(catalog, maps, revision).is_some();
-    match mapping_of(maps, revision) {
+    let found = revisions.manifest(catalog, revision).is_some();
+    match revisions.mapping(revision) {
         None => Name {
             id: revision,
             found,
@@ -241,14 +127,14 @@ fn name_cells(catalog: &Catalog<'_>, cells: &[CellMap], all: &mut Namings) -> Re
 
 fn add_revisions(
     catalog: &Catalog<'_>,
-    maps: &[RevisionMap],
-    revisions: &[ExGuid],
+    revisions: &Revisions<'_>,
+    named: &[ExGuid],
     all: &mut Namings,
 ) -> Result<(), NoMemory>
-    ensures { OnOk result (all.new ≡ all.old ++ map (revision_name (listed catalog.now) maps.now) revisions.now) }
+    ensures { OnOk result (all.new ≡ all.old ++ map (revision_name (listed catalog.now) revisions.now.maps.now) named.now) }
 {
-    for revision in revisions {
-        all.push(revision_name(catalog, maps, *revision))?;
+    for revision in named {
+        all.push(revision_name(catalog, revisions, *revision))?;
     }
     Ok(())
 }
@@ -280,15 +166,15 @@ fn names_below(
 ) -> Result<(), NoMemory>
     ensures { OnOk result (all.new ≡ all.old ++ names_below (listed catalog.now) (seen_mappings maps.entry)) }
 {
-    let revision_maps = maps.revisions.as_slice();
+    let revisions = Revisions::new(alloc, maps.revisions.as_slice())?;
     let cells = cells_of(alloc, maps.cells.as_slice())?;
     let currents = currents_of(alloc, catalog, cells.as_slice())?;
-    let revisions = name_revisions(alloc, catalog, revision_maps, currents.as_slice())?;
-    let groups = name_groups(alloc, catalog, revision_maps, revisions.as_slice())?;
+    let named = name_revisions(alloc, catalog, &revisions, currents.as_slice())?;
+    let groups = name_groups(alloc, catalog, &revisions, named.as_slice())?;
     let blobs = name_blobs(alloc, catalog, groups.as_slice())?;
     name_storage(catalog, maps.manifests.as_slice(), all)?;
     name_cells(catalog, cells.as_slice(), all)?;
-    add_revisions(catalog, revision_maps, revisions.as_slice(), all)?;
+    add_revisions(catalog, &revisions, named.as_slice(), all)?;
     add_groups(catalog, groups.as_slice(), all)?;
     add_blobs(catalog, blobs.as_slice(), all)?;
     Ok(())

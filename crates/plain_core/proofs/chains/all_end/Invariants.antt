@@ -8,5 +8,5 @@ use Rattle.plain_core.proofs.chains.all_end.Given as goal
 -- those before end, so the answer is that of those that are left
 abbrev pub invariant-loop-revision : goal.invariant-loop-revision
 invariant-loop-revision l =
-    list_all (λ r. is_some (chain (listed l.catalog) l.maps longest r)) (drop l.revision-index l.revisions)
-    ≡ list_all (λ r. is_some (chain (listed l.catalog) l.maps longest r)) l.revisions
+    list_all (λ r. is_some (chain (listed l.catalog) l.revisions.maps.now longest r)) (drop l.revision-index l.currents)
+    ≡ list_all (λ r. is_some (chain (listed l.catalog) l.revisions.maps.now longest r)) l.currents

@@ -6,7 +6,7 @@ use Rattle.plain_core.proofs.chains.ends.Given as goal
 
 -- the chain ends where it ends from here on
 abbrev pub invariant-loop-left : goal.invariant-loop-left
-invariant-loop-left l = is_some (chain (listed l.catalog) l.maps l.left l.at) ≡ is_some (chain (listed l.fn.catalog) l.fn.maps longest l.fn.revision)
+invariant-loop-left l = is_some (chain (listed l.catalog) l.revisions.maps.now l.left l.at) ≡ is_some (chain (listed l.fn.catalog) l.fn.revisions.maps.now longest l.fn.revision)
 
 abbrev pub decreases-loop-left : goal.decreases-loop-left
 decreases-loop-left l = l.left

@@ -7,7 +7,7 @@ use Rattle.plain_core.proofs.file.chain.Given as goal
 -- what is there, and what comes from here on
 abbrev pub invariant-loop-left : goal.invariant-loop-left
 invariant-loop-left l =
-    option_map (λ rest. map seen_manifest l.all.items ++ rest) (chain (listed l.catalog) l.maps l.left l.at) ≡ chain (listed l.fn.catalog) l.fn.maps longest l.fn.revision
+    option_map (λ rest. map seen_manifest l.all.items ++ rest) (chain (listed l.catalog) l.revisions.maps.now l.left l.at) ≡ chain (listed l.fn.catalog) l.fn.revisions.maps.now longest l.fn.revision
 
 abbrev pub decreases-loop-left : goal.decreases-loop-left
 decreases-loop-left l = l.left
