@@ -16,9 +16,10 @@ use Rattle.doc_model.specs.declared.element.Content.TheVariants.{Inline, Apart}
 use Rattle.doc_model.specs.FileObjects.{root_file}
 use Rattle.doc_model.specs.Files.{current_revision, root_chain, objects_of, own_bytes, as_file_object, root_object, file_of_chain, file, group_objects, revision_objects}
 use Rattle.doc_model.specs.Finding.{first, said, Manifest, Mappings, as_index, as_storage, as_cell, as_blob}
-use Rattle.doc_model.specs.Reached.{absent, named_along, named_revisions, enough, longest, chain, revision_name, cell_name, storage_name, group_name, blob_name, groups_of, blobs_of, blob_of, cells_of, current_of, currents_of, names, names_below}
+use Rattle.doc_model.specs.Reached.{absent, named_along, named_revisions, named_groups, named_blobs, enough, longest, chain, revision_name, cell_name, storage_name, group_name, blob_name, groups_of, blobs_of, blob_of, cells_of, current_of, currents_of, names, names_below}
 use Rattle.doc_model.proofs.Agree.{first-cell, chain-each}
 use Rattle.doc_model.proofs.EachItem.{each-back, each-map, each-flat, each-flat-map, each-as, map-same}
+use Rattle.doc_model.proofs.Once.{once-each}
 use Rattle.file_nodes.specs.FileWalks as walks
 use Rattle.plain_core.specs.Filing.{stored, file_with_bytes}
 
@@ -48,19 +49,28 @@ module _ (added : List Element) where
     rs = named_revisions added maps.revisions (currents_of added maps)
 
     abbrev gs : List ExGuid
-    gs = flat_map (groups_of added maps.revisions) rs
+    gs = named_groups added maps.revisions rs
 
     blobs-there : Each IsThere (flat_map (blobs_of added) gs)
     blobs-there =
-        each-map (λ n. n.found ≡ true) (blob_name added) (flat_map (blobs_of added) gs)
+        once-each IsThere (flat_map (blobs_of added) gs)
+        (each-map (λ n. n.found ≡ true) (blob_name added) (named_blobs added gs)
         (each-back (λ n. n.found ≡ true)
         (map (storage_name added) (take 1 maps.manifests) ++ map (cell_name added) (cells_of maps) ++ map (revision_name added maps.revisions) rs ++ map (group_name added) gs)
-        (map (blob_name added) (flat_map (blobs_of added) gs)) h)
+        (map (blob_name added) (named_blobs added gs)) h))
+
+    abbrev along : ExGuid → List ExGuid
+    along = named_along added maps.revisions (enough maps.revisions)
+
+    abbrev GroupsAt : ExGuid → Type 0
+    GroupsAt x = Each HasBlobs (groups_of added maps.revisions x)
 
     currents-there : Each (HasAlong maps) (currents_of added maps)
     currents-there =
-        each-flat (λ x. Each HasBlobs (groups_of added maps.revisions x)) (named_along added maps.revisions (enough maps.revisions)) (currents_of added maps)
-        (each-flat HasBlobs (groups_of added maps.revisions) rs (each-flat IsThere (blobs_of added) gs blobs-there))
+        each-flat GroupsAt along (currents_of added maps)
+        (once-each GroupsAt (flat_map along (currents_of added maps))
+        (each-flat HasBlobs (groups_of added maps.revisions) rs
+        (once-each HasBlobs (flat_map (groups_of added maps.revisions) rs) (each-flat IsThere (blobs_of added) gs blobs-there))))
 
     cells-there : Each (λ c. HasAlong maps (current_of added c)) (cells_of maps)
     cells-there = each-map (HasAlong maps) (current_of added) (cells_of maps) currents-there
