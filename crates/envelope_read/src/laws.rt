@@ -1,1 +1,0 @@
-//! What holds of the definitions themselves.
