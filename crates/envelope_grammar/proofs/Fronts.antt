@@ -1,11 +1,11 @@
 -- The loops that look for the end of the declaration and for a word in it.
-use Rattle.std.proofs.Common.{◌≡◌, ℕ, ◌+◌, ◌<◌, ◌≤◌, ◌⊎◌, inl, inr, List, [], ◌∷◌, ◌++◌, length, get_or, take, drop, Bool, true, false, cond, eqb, not, ◌&&◌, subst, Option, Some, None, refl, sym, ap, ◌∙◌, append_assoc}
+use Rattle.std.proofs.Common.{◌≡◌, ℕ, ◌+◌, ◌<◌, ◌≤◌, inl, inr, List, [], ◌∷◌, ◌++◌, length, get_or, take, drop, Bool, true, false, cond, eqb, not, ◌&&◌, subst, Option, Some, None, refl, sym, ap, ◌∙◌, append_assoc}
 use Rattle.std.specs.Str.{IsUtf8, is_utf8}
 use Rattle.std.proofs.lemmas.Str.{IsUtf8-from_is_utf8, is_utf8-from_IsUtf8}
 use Rattle.std.proofs.lemmas.List.{drop_more, drop_all, take_more, append-nil}
 use Rattle.std.specs.Prelude.{codes}
 use Rattle.envelope_grammar.specs.Bytes.{is_white}
-use Rattle.envelope_grammar.specs.Grammar.{◌▸◌, Then, Is, begins}
+use Rattle.envelope_grammar.specs.Grammar.{◌▸◌, Is, begins}
 use Rattle.envelope_grammar.specs.Reading.{◌>>=◌, past}
 use Rattle.envelope_grammar.proofs.Runs.{and_parts, and_both, bind_some, guard_some, some_is, pair_is, past_takes}
 use Rattle.envelope_grammar.specs.Front.{or_all, past_word, past_mark, end_from, until_end, behind_first, encoding_fine, declaration_from, past_declaration, Mark, lacks_end, IsDeclared, Declaration}

@@ -2,7 +2,7 @@
 use Rattle.std.specs.Prelude.{◌≡◌, ◌⊎◌, ℕ, Bool, true, false, ◌&&◌, ◌||◌, not, List, [], ◌∷◌, ◌==◌, nat_lt, length, take, Option, Some, None, codes, if◌then◌else◌}
 use Rattle.std.specs.Str.{IsUtf8, is_utf8, str_eq_ignore_ascii_case}
 use Rattle.envelope_grammar.specs.Bytes.{is_white, run_len}
-use Rattle.envelope_grammar.specs.Grammar.{◌▸◌, Then, Is, begins, SpellsDocument}
+use Rattle.envelope_grammar.specs.Grammar.{◌▸◌, Is, begins, SpellsDocument}
 use Rattle.envelope_grammar.specs.Reading.{◌>>=◌, past, document_at}
 use Rattle.envelope_grammar.specs.declared.raw.RawRequest.{RawRequest}
 

@@ -1,4 +1,4 @@
-use Rattle.std.proofs.Common.{sym, ap, ◌∙◌, ◌≡◌, ◌++◌, ◌∷◌, [], List, Some, None}
+use Rattle.std.proofs.Common.{sym, ap, ◌∙◌, ◌++◌, List}
 use Rattle.envelope_grammar.specs.declared.raw.Payload.{Payload}
 use Rattle.envelope_grammar.specs.Grammar.{present}
 use Rattle.envelope_grammar.proofs.Loops.{found_list, present_none, first_found, second_found}

@@ -1,7 +1,6 @@
-use Rattle.std.proofs.Common.{◌≡◌, ◌++◌, ◌∙◌, ap, sym, [], List, ℕ, Some, None, length, take, drop, ◌-◌, arith}
+use Rattle.std.proofs.Common.{◌≡◌, ◌++◌, ◌∙◌, ap, [], List, ℕ, length, take, drop, ◌-◌, arith}
 use Rattle.std.specs.Prelude.{encode_utf8}
 use Rattle.std.proofs.lemmas.List.{take_rest, drop_all}
-use Rattle.envelope_grammar.specs.Reading.{past, meaning, in_front, reference_at}
 use Rattle.envelope_grammar.proofs.Values.{ends_here, fails_here, goes_on_here, shorter_here}
 use Rattle.envelope_grammar.proofs.value.add_piece.Goals as goal
 
