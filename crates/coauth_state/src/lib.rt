@@ -21,6 +21,3 @@ pub use members::one_member;
 pub use plan::LockPlan;
 pub use shared_step::{is_shared_step, shared};
 pub use standing::Standing;
-
-#[cfg(test)]
-mod tests;

@@ -38,12 +38,3 @@ pub use package::read_package;
 pub use rows::{has_no_fields, package_row};
 pub use wire_fault::WireFault;
 pub use write::{write_element, write_knowledge, write_package};
-
-#[cfg(test)]
-mod knowledge_tests;
-#[cfg(test)]
-mod test_bodies;
-#[cfg(test)]
-mod test_forms;
-#[cfg(test)]
-mod tests;

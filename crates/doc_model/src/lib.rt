@@ -62,6 +62,3 @@ pub use sizes::{
     item_size, serial_size, size_if_any_size, started_size,
 };
 pub use weighing::weight;
-
-#[cfg(test)]
-mod tests;

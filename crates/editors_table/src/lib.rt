@@ -22,6 +22,3 @@ pub use editor_reply::reply;
 pub use editor_step::step;
 pub use live::is_alone;
 pub use plan::EditorPlan;
-
-#[cfg(test)]
-mod tests;

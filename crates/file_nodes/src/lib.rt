@@ -33,8 +33,3 @@ pub use fault::NodeFault;
 pub use file::file_of;
 pub use lengths::file_length;
 pub use object_map::{ObjectMap, StoredObject};
-
-#[cfg(test)]
-mod file_tests;
-#[cfg(test)]
-mod tests;

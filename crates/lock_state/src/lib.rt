@@ -16,6 +16,3 @@ pub use allowing::allows;
 pub use coauth_state::LockPlan;
 pub use lock_reply::reply;
 pub use lock_step::step;
-
-#[cfg(test)]
-mod tests;

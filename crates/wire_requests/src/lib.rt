@@ -22,6 +22,3 @@ mod write;
 pub use data_elements::WireFault;
 pub use request::read_cell_request;
 pub use write::write_cell_request;
-
-#[cfg(test)]
-mod tests;

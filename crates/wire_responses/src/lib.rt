@@ -25,6 +25,3 @@ mod write_reply;
 
 pub use read::read_cell_response;
 pub use write::{write_cell_failure, write_cell_response};
-
-#[cfg(test)]
-mod tests;

@@ -1,5 +1,5 @@
 // Each call that takes memory, with ample memory.
-use super::*;
+use coauth_state::*;
 use compact_values::{Guid, NoMemory};
 use doc_model::{Coauthors, LockRecord, LockStep, Member};
 use std::alloc::Global;

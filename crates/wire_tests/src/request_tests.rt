@@ -1,4 +1,3 @@
-use super::*;
 use compact_values::{ExGuid, NoMemory, Octets, Seq, guid_of};
 use doc_model::{
     Body, CellRequest, Element, Elements, Knowledge, Range, Ranges, WireKind, WireSub, WireSubs,
@@ -6,6 +5,7 @@ use doc_model::{
 use std::alloc::Global;
 use std::test::Fail;
 use stream_objects::TreeFault;
+use wire_requests::*;
 
 /// A request with one sub-request, which draws 1,000 numbers.
 const DRAW: [u8; 38] = [

@@ -1,10 +1,10 @@
 ghost use Rattle.std.specs.Prelude.{ℕ, ◌+◌, ◌<◌, ◌^◌, IfSome};
 ghost use Rattle.doc_model.specs.LockSteps.{timeout_of};
 
-use super::*;
 use coauth_state::status;
 use compact_values::{Guid, NoMemory, Seq};
 use doc_model::{Coauthors, Code, LockKind, LockRecord, LockStep, Member, Members, Reply};
+use lock_state::*;
 use std::alloc::Global;
 use std::test::Fail;
 

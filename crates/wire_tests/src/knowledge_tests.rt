@@ -1,7 +1,7 @@
 // Knowledge, byte by byte. The start of a 44 is 26 02 20 00, and its end 13 01.
-use super::*;
 use crate::test_forms::{bytes_of, guid};
 use compact_values::{NoMemory, Octets, Seq};
+use data_elements::*;
 use doc_model::{Knowledge, Range};
 use std::alloc::Global;
 use std::test::Fail;

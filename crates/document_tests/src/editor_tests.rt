@@ -1,9 +1,9 @@
 ghost use Rattle.std.specs.Prelude.{ℕ, ◌+◌, ◌<◌, ◌^◌, IfOk, IfSome};
 ghost use Rattle.doc_model.specs.Editing.{editor_timeout_of};
 
-use super::*;
 use compact_values::{Guid, NoMemory, Octets, Seq, Text};
 use doc_model::{Code, Editor, EditorStep, Editors, Entry, Reply};
+use editors_table::*;
 use std::alloc::Global;
 use std::test::Fail;
 

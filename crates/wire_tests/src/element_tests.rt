@@ -1,12 +1,12 @@
 // Data elements and packages, byte by byte. Their objects: a start of 16 bits is 4 for compound, 8 times the type and 512
 // times the length; an end of 8 bits is 1 and 4 times the type.
-use super::*;
 use crate::test_bodies::{
     a_bare_revision, a_blob, a_blob_group, a_group, a_linked_group, a_revision, a_storage,
     an_index, an_inline_group,
 };
 use crate::test_forms::{bytes_of, guid, id, list_of};
 use compact_values::{ExGuid, NoMemory, Octets, Seq, Serial};
+use data_elements::*;
 use doc_model::{Body, Element, Elements, Numbered, NumberedElement};
 use std::alloc::Global;
 use std::process::Abort;

@@ -2,7 +2,6 @@
 // length; an end of 16 bits is 3 and 4 times the type.
 ghost use Rattle.wire_responses.specs.Forms.{HasForm};
 
-use super::*;
 use compact_values::{ExGuid, Guid, NoMemory, Octets, Seq};
 use data_elements::WireFault;
 use doc_model::{
@@ -11,6 +10,7 @@ use doc_model::{
 };
 use std::alloc::Global;
 use std::test::Fail;
+use wire_responses::*;
 
 /// 00112233-4455-6677-8899-aabbccddeeff
 const DOCUMENT: Guid = Guid {

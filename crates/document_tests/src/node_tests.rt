@@ -1,8 +1,8 @@
 ghost use Rattle.std.specs.Prelude.{◌≤◌};
 
-use super::*;
 use compact_values::{Guid, Octets};
 use doc_model::{Body, Content, Object};
+use file_nodes::*;
 use std::alloc::Global;
 use std::test::Fail;
 

@@ -1,5 +1,5 @@
-use super::*;
 use compact_values::{ExGuid, Octets};
+use doc_model::{Body, Element, weight};
 use std::test::Fail;
 
 #[test]

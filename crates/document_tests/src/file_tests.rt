@@ -1,6 +1,6 @@
-use super::*;
 use compact_values::{ExGuid, Guid, Ids, Octets};
 use doc_model::{Body, Content};
+use file_nodes::*;
 use std::alloc::Global;
 use std::test::Fail;
 
