@@ -5,3 +5,4 @@ pub mod Locking
 pub mod Editing
 pub mod Asked
 pub mod Verdicts
+pub mod Callable

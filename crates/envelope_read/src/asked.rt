@@ -7,7 +7,7 @@ use crate::collection::{SubAsk, What};
 use crate::depending::depend_of;
 use crate::editing::{editor_step, set_key};
 use crate::locking::{coauth_step, exclusive_step, schema_step};
-use crate::lookup::{bytes_of, carried_at, content_at, number_at, text_of};
+use crate::lookup::{bytes_of, carried_at, content_at, is, number_at, text_of};
 use compact_values::{NoMemory, Octets};
 use doc_model::{EditorStep, LockStep, Sub};
 use envelope_grammar::{Attribute, Payload, RawSub};
@@ -80,7 +80,7 @@ fn editor_asked(
 ) -> Result<Option<What>, NoMemory>
     ensures { IfOk result (λ what. what ≡ editor_asked word.now attributes.now text.now) }
 {
-    if word == b"UpdateEditorMetadata".as_slice() {
+    if is(word, b"UpdateEditorMetadata") {
         let Some(value) = decoded(alloc, text)? else {
             return Ok(None);
         };
@@ -106,11 +106,13 @@ fn restore_of(attributes: &[Attribute]) -> Option<What>
 fn version_asked(word: &[u8], attributes: &[Attribute]) -> What
     ensures { result ≡ version_asked word.now attributes.now }
 {
-    match word {
-        b"GetVersionList" => What::Plain { sub: Sub::Versions },
-        b"RestoreVersion" => asked_or_bad(restore_of(attributes)),
-        _ => What::BadArgument,
+    if is(word, b"GetVersionList") {
+        return What::Plain { sub: Sub::Versions };
     }
+    if is(word, b"RestoreVersion") {
+        return asked_or_bad(restore_of(attributes));
+    }
+    What::BadArgument
 }
 
 #[tactic(auto, unfolding(crate::specs::Asked::what_of))]
@@ -122,34 +124,48 @@ fn what_of(
 ) -> Result<Option<What>, NoMemory>
     ensures { IfOk result (λ what. what ≡ what_of kind.now attributes.now text.now) }
 {
-    match kind {
-        b"Cell" => cell_asked(alloc, attributes, text),
-        b"ExclusiveLock" => Ok(Some(lock_or_bad(exclusive_step(
+    if is(kind, b"Cell") {
+        return cell_asked(alloc, attributes, text);
+    }
+    if is(kind, b"ExclusiveLock") {
+        return Ok(Some(lock_or_bad(exclusive_step(
             bytes_of(b"ExclusiveLockRequestType", attributes),
             attributes,
-        )))),
-        b"SchemaLock" => Ok(Some(lock_or_bad(schema_step(
+        ))));
+    }
+    if is(kind, b"SchemaLock") {
+        return Ok(Some(lock_or_bad(schema_step(
             bytes_of(b"SchemaLockRequestType", attributes),
             attributes,
-        )))),
-        b"Coauth" => Ok(Some(lock_or_bad(coauth_step(
+        ))));
+    }
+    if is(kind, b"Coauth") {
+        return Ok(Some(lock_or_bad(coauth_step(
             bytes_of(b"CoauthRequestType", attributes),
             attributes,
-        )))),
-        b"EditorsTable" => editor_asked(
+        ))));
+    }
+    if is(kind, b"EditorsTable") {
+        return editor_asked(
             alloc,
             bytes_of(b"EditorsTableRequestType", attributes),
             attributes,
             text,
-        ),
-        b"Versioning" => Ok(Some(version_asked(
+        );
+    }
+    if is(kind, b"Versioning") {
+        return Ok(Some(version_asked(
             bytes_of(b"VersioningRequestType", attributes),
             attributes,
-        ))),
-        b"AmIAlone" => Ok(Some(What::Plain { sub: Sub::AmIAlone })),
-        b"WhoAmI" => Ok(Some(What::Plain { sub: Sub::WhoAmI })),
-        _ => Ok(Some(What::NotSupported)),
+        )));
     }
+    if is(kind, b"AmIAlone") {
+        return Ok(Some(What::Plain { sub: Sub::AmIAlone }));
+    }
+    if is(kind, b"WhoAmI") {
+        return Ok(Some(What::Plain { sub: Sub::WhoAmI }));
+    }
+    Ok(Some(What::NotSupported))
 }
 
 fn data_attributes(payload: &Option<Payload>) -> &[Attribute]

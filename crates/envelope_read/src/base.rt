@@ -47,7 +47,13 @@ fn without_white(alloc: Global, bytes: &[u8]) -> Result<Vec<u8>, NoMemory>
 fn has_white(bytes: &[u8]) -> bool
     ensures { result ≡ false → without_white bytes.now ≡ bytes.now }
 {
-    memchr3(b' ', b'\r', b'\n', bytes).is_some() || memchr(b'\t', bytes).is_some()
+    match memchr3(b' ', b'\r', b'\n', bytes) {
+        Some(_) => true,
+        None => match memchr(b'\t', bytes) {
+            Some(_) => true,
+            None => false,
+        },
+    }
 }
 
 /// The bytes that these mean, white space dropped. None where the engine refuses them.

@@ -4,7 +4,7 @@ ghost use Rattle.std.specs.Prelude.{◌≡◌, IfOk};
 ghost use Rattle.envelope_read.specs.Editing.{join_of, leave_of, refresh_of, set_key, remove_key, editor_step};
 
 use crate::locking::client_id;
-use crate::lookup::{timeout_at, value_of};
+use crate::lookup::{is, timeout_at, value_of};
 use compact_values::{Copied, NoMemory, Octets};
 use doc_model::EditorStep;
 use envelope_grammar::Attribute;
@@ -78,11 +78,17 @@ pub(crate) fn editor_step(
 ) -> Result<Option<EditorStep>, NoMemory>
     ensures { IfOk result (λ step. step ≡ editor_step word.now attributes.now) }
 {
-    match word {
-        b"JoinEditingSession" => Ok(join_of(attributes)),
-        b"LeaveEditingSession" => Ok(leave_of(attributes)),
-        b"RefreshEditingSession" => Ok(refresh_of(attributes)),
-        b"RemoveEditorMetadata" => remove_key(alloc, attributes),
-        _ => Ok(None),
+    if is(word, b"JoinEditingSession") {
+        return Ok(join_of(attributes));
     }
+    if is(word, b"LeaveEditingSession") {
+        return Ok(leave_of(attributes));
+    }
+    if is(word, b"RefreshEditingSession") {
+        return Ok(refresh_of(attributes));
+    }
+    if is(word, b"RemoveEditorMetadata") {
+        return remove_key(alloc, attributes);
+    }
+    Ok(None)
 }

@@ -2,7 +2,7 @@
 ghost use Rattle.std.specs.Prelude.{◌≡◌};
 ghost use Rattle.envelope_read.specs.Locking.{exclusive_id, schema_id, client_id, take_exclusive, drop_exclusive, refresh_exclusive, check_exclusive, to_shared, take_shared, drop_shared, refresh_shared, to_exclusive, check_shared, status_of, mark_of, exclusive_step, schema_step, coauth_step};
 
-use crate::lookup::{flag_at, guid_at, timeout_at};
+use crate::lookup::{flag_at, guid_at, is, timeout_at};
 use compact_values::Guid;
 use doc_model::LockStep;
 use envelope_grammar::Attribute;
@@ -143,15 +143,25 @@ fn mark_of(attributes: &[Attribute]) -> Option<LockStep>
 pub(crate) fn exclusive_step(word: &[u8], attributes: &[Attribute]) -> Option<LockStep>
     ensures { result ≡ exclusive_step word.now attributes.now }
 {
-    match word {
-        b"GetLock" => take_exclusive(attributes),
-        b"ReleaseLock" => drop_exclusive(attributes),
-        b"RefreshLock" => refresh_exclusive(attributes),
-        b"CheckLockAvailability" => check_exclusive(attributes),
-        b"ConvertToSchema" => to_shared(false, attributes),
-        b"ConvertToSchemaJoinCoauth" => to_shared(true, attributes),
-        _ => None,
+    if is(word, b"GetLock") {
+        return take_exclusive(attributes);
     }
+    if is(word, b"ReleaseLock") {
+        return drop_exclusive(attributes);
+    }
+    if is(word, b"RefreshLock") {
+        return refresh_exclusive(attributes);
+    }
+    if is(word, b"CheckLockAvailability") {
+        return check_exclusive(attributes);
+    }
+    if is(word, b"ConvertToSchema") {
+        return to_shared(false, attributes);
+    }
+    if is(word, b"ConvertToSchemaJoinCoauth") {
+        return to_shared(true, attributes);
+    }
+    None
 }
 
 /// The step of a request word of SchemaLock (MS-FSSHTTP 3.1.4.4).
@@ -159,14 +169,22 @@ pub(crate) fn exclusive_step(word: &[u8], attributes: &[Attribute]) -> Option<Lo
 pub(crate) fn schema_step(word: &[u8], attributes: &[Attribute]) -> Option<LockStep>
     ensures { result ≡ schema_step word.now attributes.now }
 {
-    match word {
-        b"GetLock" => take_shared(false, attributes),
-        b"ReleaseLock" => drop_shared(attributes),
-        b"RefreshLock" => refresh_shared(attributes),
-        b"ConvertToExclusive" => to_exclusive(attributes),
-        b"CheckLockAvailability" => check_shared(attributes),
-        _ => None,
+    if is(word, b"GetLock") {
+        return take_shared(false, attributes);
     }
+    if is(word, b"ReleaseLock") {
+        return drop_shared(attributes);
+    }
+    if is(word, b"RefreshLock") {
+        return refresh_shared(attributes);
+    }
+    if is(word, b"ConvertToExclusive") {
+        return to_exclusive(attributes);
+    }
+    if is(word, b"CheckLockAvailability") {
+        return check_shared(attributes);
+    }
+    None
 }
 
 /// The step of a request word of Coauth (MS-FSSHTTP 3.1.4.3).
@@ -174,14 +192,26 @@ pub(crate) fn schema_step(word: &[u8], attributes: &[Attribute]) -> Option<LockS
 pub(crate) fn coauth_step(word: &[u8], attributes: &[Attribute]) -> Option<LockStep>
     ensures { result ≡ coauth_step word.now attributes.now }
 {
-    match word {
-        b"JoinCoauthoring" => take_shared(true, attributes),
-        b"ExitCoauthoring" => drop_shared(attributes),
-        b"RefreshCoauthoring" => refresh_shared(attributes),
-        b"ConvertToExclusive" => to_exclusive(attributes),
-        b"CheckLockAvailability" => check_shared(attributes),
-        b"GetCoauthoringStatus" => status_of(attributes),
-        b"MarkTransitionComplete" => mark_of(attributes),
-        _ => None,
+    if is(word, b"JoinCoauthoring") {
+        return take_shared(true, attributes);
     }
+    if is(word, b"ExitCoauthoring") {
+        return drop_shared(attributes);
+    }
+    if is(word, b"RefreshCoauthoring") {
+        return refresh_shared(attributes);
+    }
+    if is(word, b"ConvertToExclusive") {
+        return to_exclusive(attributes);
+    }
+    if is(word, b"CheckLockAvailability") {
+        return check_shared(attributes);
+    }
+    if is(word, b"GetCoauthoringStatus") {
+        return status_of(attributes);
+    }
+    if is(word, b"MarkTransitionComplete") {
+        return mark_of(attributes);
+    }
+    None
 }

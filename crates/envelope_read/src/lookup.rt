@@ -2,7 +2,7 @@
 ghost use Rattle.std.specs.Prelude.{◌≡◌, Some, None, IfOk, codes};
 ghost use Rattle.std.specs.Str.{bytes_eq};
 ghost use Rattle.envelope_grammar.specs.Answers.{Finds};
-ghost use Rattle.envelope_read.specs.Lookup.{is_called, value_of, bytes_of, text_of, guid_at, carried_value, carried_at, content_at, number_at, clamped, timeout_at, is_true, flag_at};
+ghost use Rattle.envelope_read.specs.Lookup.{is_called, value_of, bytes_of, text_of, guid_at, carried_value, carried_at, is_zero, content_from, content_at, number_at, clamped, timeout_at, is_true, flag_at};
 
 use crate::number::number_in;
 use compact_values::{Copied, Guid, NoMemory, Text, guid_of_text};
@@ -14,10 +14,17 @@ const USUAL_TIMEOUT: u64 = 3_600;
 const LEAST_TIMEOUT: u64 = 60;
 const MOST_TIMEOUT: u64 = 86_400;
 
+/// Whether it is this word.
+pub(crate) fn is(bytes: &[u8], word: &[u8]) -> bool
+    ensures { result ≡ bytes_eq bytes.now word.now }
+{
+    bytes == word
+}
+
 fn is_called(word: &[u8], name: &Name) -> bool
     ensures { result ≡ is_called word.now name.now }
 {
-    name.local.as_slice() == word && !(name.prefix.as_slice() == b"xmlns".as_slice())
+    is(name.local.as_slice(), word) && !is(name.prefix.as_slice(), b"xmlns")
 }
 
 /// The value of the first attribute with this local name.
@@ -92,16 +99,28 @@ pub(crate) fn carried_at(attributes: &[Attribute]) -> Option<Option<Guid>>
     }
 }
 
+fn is_zero(guid: Guid) -> bool
+    ensures { result ≡ is_zero guid }
+{
+    guid.number == 0
+}
+
+fn content_in(value: &Text) -> Option<bool>
+    ensures { result ≡ content_from (Some value.now) }
+{
+    match guid_of_text(value.as_str()) {
+        Some(guid) => Some(is_zero(guid)),
+        None => None,
+    }
+}
+
 /// Whether the content partition is asked for: none is named, or the zero GUID. None where it is no GUID.
 #[tactic(auto, unfolding(crate::specs::Lookup::content_at))]
 pub(crate) fn content_at(attributes: &[Attribute]) -> Option<bool>
     ensures { result ≡ content_at attributes.now }
 {
     match value_of(b"PartitionID", attributes) {
-        Some(value) => {
-            let guid = guid_of_text(value.as_str())?;
-            Some(guid.number == 0)
-        }
+        Some(value) => content_in(value),
         None => Some(true),
     }
 }
@@ -145,7 +164,7 @@ pub(crate) fn timeout_at(attributes: &[Attribute]) -> Option<u64>
 fn is_true(bytes: &[u8]) -> bool
     ensures { result ≡ is_true bytes.now }
 {
-    bytes.eq_ignore_ascii_case(b"true") || bytes == b"1".as_slice()
+    bytes.eq_ignore_ascii_case(b"true") || is(bytes, b"1")
 }
 
 /// Whether the attribute is `true` in any case, or 1.
