@@ -15,7 +15,7 @@ use Rattle.envelope_grammar.specs.Reading.{◌>>=◌}
 use Rattle.envelope_grammar.specs.declared.raw.RawRequest.{RawRequest}
 use Rattle.envelope_grammar.specs.declared.raw.RawSub.{RawSub}
 use Rattle.envelope_grammar.specs.declared.tag.Attribute.{Attribute}
-use Rattle.envelope_read.specs.Asked.{asked_or_bad, cell_with, cell_asked, lock_or_bad, editor_or_bad, editor_asked, restore_of, version_asked, what_of, sub_with, sub_of, data_attributes, data_text}
+use Rattle.envelope_read.specs.Asked.{asked_or_bad, cell_with, cell_asked, lock_or_bad, editor_or_bad, editor_asked, restore_of, version_asked, exclusive_asked, schema_asked, coauth_asked, table_asked, versions_asked, what_of, sub_with, sub_of, data_attributes, data_text}
 use Rattle.envelope_read.specs.Base.{decoded}
 use Rattle.envelope_read.specs.Callable.{IsCallable, AreCallable, subs_of}
 use Rattle.envelope_read.specs.Editing.{join_of, leave_of, refresh_of, set_key, remove_key, editor_step}
@@ -215,7 +215,7 @@ version_callable word a =
     (pick_what (bytes_eq word (codes "RestoreVersion")) _ _ (or_bad_callable (restore_of a) (restore_callable a)) tt)
 
 what_callable : (kind : List ℕ) (a : List Attribute) (text : List ℕ) → IfSome (what_of kind a text) IsCallable
-unfolding what_of
+unfolding what_of exclusive_asked schema_asked coauth_asked table_asked versions_asked
 what_callable kind a text =
     pick IsCallable (bytes_eq kind (codes "Cell")) _ _ (cell_asked_callable a text)
     (pick IsCallable (bytes_eq kind (codes "ExclusiveLock")) _ _ (lock_callable _ (exclusive_fits (bytes_of (codes "ExclusiveLockRequestType") a) a))
@@ -247,7 +247,7 @@ or_number_parts : {A : Type 0} (n : ℕ) (o : Option A) (x : A) → or_number n 
 or_number_parts n (Some y) x e = cc
 or_number_parts n None x e = absurd cc
 
-ok_is : {A : Type 0} (x y : A) → Ok {E = ℕ} x ≡ Ok y → x ≡ y
+ok_is : {A : Type 0} (x y : A) → ◌≡◌ {A = Result A ℕ} (Ok x) (Ok y) → x ≡ y
 ok_is x y e = cc
 
 record AreRead (subs : List RawSub) (xs : List SubAsk) : Type 0 where

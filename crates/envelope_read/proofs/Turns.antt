@@ -5,8 +5,15 @@ use Rattle.std.proofs.lemmas.Bool.Decides.{nat_tests}
 use Rattle.std.proofs.lemmas.List.{drop_more, drop_all, append-nil}
 use Rattle.envelope_grammar.specs.declared.raw.RawRequest.{RawRequest}
 use Rattle.envelope_grammar.specs.declared.raw.RawSub.{RawSub}
-use Rattle.envelope_read.specs.Asked.{sub_of}
-use Rattle.envelope_read.specs.Verdicts.{sub_count, then_ok, or_number, subs_from, ask_with, asks_from}
+use Rattle.std.specs.Prelude.{codes}
+use Rattle.envelope_grammar.specs.Front.{text_at}
+use Rattle.envelope_grammar.specs.declared.tag.Attribute.{Attribute}
+use Rattle.envelope_read.specs.Asked.{what_of, data_attributes, data_text, sub_of}
+use Rattle.envelope_read.specs.Depending.{depend_of}
+use Rattle.envelope_read.specs.Lookup.{bytes_of, text_of}
+use Rattle.envelope_read.specs.declared.collection.Depend.{Depend}
+use Rattle.envelope_read.specs.declared.collection.What.{What}
+use Rattle.envelope_read.specs.Verdicts.{most_subs, sub_count, then_ok, or_number, subs_from, ask_with, asks_from, verdict_by, verdict}
 use Rattle.envelope_read.specs.declared.collection.Ask.{Ask}
 use Rattle.envelope_read.specs.declared.collection.SubAsk.{SubAsk}
 
@@ -78,3 +85,29 @@ module _ (requests : List RawRequest) (i n : ℕ) (x : RawRequest) (is : x ≡ g
 pub asks_end : (requests : List RawRequest) (i n : ℕ) (front : List Ask) → length requests ≤ i → prepended front (asks_from n (drop i requests)) ≡ Ok front
 unfolding asks_from
 asks_end requests i n front le = ap (λ (l : List RawRequest). prepended front (asks_from n l)) (drop_all i requests le) ∙ ap (λ (l : List Ask). Ok l) (append-nil front)
+
+-- ---- one subrequest
+
+pub sub_is : (sub : RawSub) (kind text : List ℕ) (a b : List Attribute) (o : Option What) (what : What) (token : List ℕ) (depend : Depend)
+    → a ≡ sub.attributes → kind ≡ bytes_of (codes "Type") a → b ≡ data_attributes sub.payload → text ≡ data_text sub.payload → o ≡ what_of kind b text → o ≡ Some what
+    → token ≡ text_of (codes "SubRequestToken") a → depend ≡ depend_of a → Some {A = SubAsk} (record { token = token; depend = depend; what = what }) ≡ sub_of sub
+unfolding sub_of
+sub_is sub kind text a b o what token depend ea ek eb et eo es etoken edepend =
+    let h : what_of kind b text ≡ Some what = sym eo ∙ es in
+    let read = rw (ek, eb, et, ea) at h in
+    rw (etoken, edepend, ea, read) refl
+
+-- ---- the verdict
+
+pub none_verdict : (text : List ℕ) → text_at text ≡ None → verdict text ≡ Err 400
+unfolding verdict
+none_verdict text h = rw h refl
+
+pub many_verdict : (text : List ℕ) (requests : List RawRequest) → text_at text ≡ Some requests → ltb most_subs (sub_count requests) ≡ true → verdict text ≡ Err 413
+unfolding verdict
+many_verdict text requests h many = rw (h, many) refl
+
+pub read_verdict : (text : List ℕ) (requests : List RawRequest) (r : Result (List Ask) ℕ) → text_at text ≡ Some requests → ltb most_subs (sub_count requests) ≡ false
+    → asks_from 0 requests ≡ r → verdict text ≡ verdict_by r
+unfolding verdict
+read_verdict text requests r h few read = rw (h, few, read) refl

@@ -53,14 +53,29 @@ version_asked word a =
 unfoldable pub cell_asked : List Attribute → List ℕ → Option What
 cell_asked a text = decoded text >>= λ bytes. Some (asked_or_bad (cell_with bytes a))
 
+unfoldable pub exclusive_asked : List Attribute → What
+exclusive_asked a = lock_or_bad (exclusive_step (bytes_of (codes "ExclusiveLockRequestType") a) a)
+
+unfoldable pub schema_asked : List Attribute → What
+schema_asked a = lock_or_bad (schema_step (bytes_of (codes "SchemaLockRequestType") a) a)
+
+unfoldable pub coauth_asked : List Attribute → What
+coauth_asked a = lock_or_bad (coauth_step (bytes_of (codes "CoauthRequestType") a) a)
+
+unfoldable pub table_asked : List Attribute → List ℕ → Option What
+table_asked a text = editor_asked (bytes_of (codes "EditorsTableRequestType") a) a text
+
+unfoldable pub versions_asked : List Attribute → What
+versions_asked a = version_asked (bytes_of (codes "VersioningRequestType") a) a
+
 unfoldable pub what_of : List ℕ → List Attribute → List ℕ → Option What
 what_of kind a text =
     if bytes_eq kind (codes "Cell") then cell_asked a text
-    else if bytes_eq kind (codes "ExclusiveLock") then Some (lock_or_bad (exclusive_step (bytes_of (codes "ExclusiveLockRequestType") a) a))
-    else if bytes_eq kind (codes "SchemaLock") then Some (lock_or_bad (schema_step (bytes_of (codes "SchemaLockRequestType") a) a))
-    else if bytes_eq kind (codes "Coauth") then Some (lock_or_bad (coauth_step (bytes_of (codes "CoauthRequestType") a) a))
-    else if bytes_eq kind (codes "EditorsTable") then editor_asked (bytes_of (codes "EditorsTableRequestType") a) a text
-    else if bytes_eq kind (codes "Versioning") then Some (version_asked (bytes_of (codes "VersioningRequestType") a) a)
+    else if bytes_eq kind (codes "ExclusiveLock") then Some (exclusive_asked a)
+    else if bytes_eq kind (codes "SchemaLock") then Some (schema_asked a)
+    else if bytes_eq kind (codes "Coauth") then Some (coauth_asked a)
+    else if bytes_eq kind (codes "EditorsTable") then table_asked a text
+    else if bytes_eq kind (codes "Versioning") then Some (versions_asked a)
     else if bytes_eq kind (codes "AmIAlone") then Some (Plain subs.AmIAlone)
     else if bytes_eq kind (codes "WhoAmI") then Some (Plain subs.WhoAmI)
     else Some NotSupported

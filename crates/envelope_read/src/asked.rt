@@ -1,6 +1,6 @@
 // What a SubRequest asks, by its Type (MS-FSSHTTP 2.2.3). None where its text is to be base64 and is none.
 ghost use Rattle.std.specs.Prelude.{◌≡◌, IfOk};
-ghost use Rattle.envelope_read.specs.Asked.{asked_or_bad, cell_with, cell_asked, lock_or_bad, editor_or_bad, editor_asked, restore_of, version_asked, what_of, data_attributes, data_text, sub_of};
+ghost use Rattle.envelope_read.specs.Asked.{asked_or_bad, cell_with, cell_asked, lock_or_bad, editor_or_bad, editor_asked, restore_of, version_asked, exclusive_asked, schema_asked, coauth_asked, table_asked, versions_asked, what_of, data_attributes, data_text, sub_of};
 
 use crate::base::decoded;
 use crate::collection::{SubAsk, What};
@@ -115,6 +115,50 @@ fn version_asked(word: &[u8], attributes: &[Attribute]) -> What
     What::BadArgument
 }
 
+#[tactic(auto, unfolding(crate::specs::Asked::exclusive_asked))]
+fn exclusive_asked(attributes: &[Attribute]) -> What
+    ensures { result ≡ exclusive_asked attributes.now }
+{
+    let word = bytes_of(b"ExclusiveLockRequestType", attributes);
+    lock_or_bad(exclusive_step(word, attributes))
+}
+
+#[tactic(auto, unfolding(crate::specs::Asked::schema_asked))]
+fn schema_asked(attributes: &[Attribute]) -> What
+    ensures { result ≡ schema_asked attributes.now }
+{
+    let word = bytes_of(b"SchemaLockRequestType", attributes);
+    lock_or_bad(schema_step(word, attributes))
+}
+
+#[tactic(auto, unfolding(crate::specs::Asked::coauth_asked))]
+fn coauth_asked(attributes: &[Attribute]) -> What
+    ensures { result ≡ coauth_asked attributes.now }
+{
+    let word = bytes_of(b"CoauthRequestType", attributes);
+    lock_or_bad(coauth_step(word, attributes))
+}
+
+#[tactic(auto, unfolding(crate::specs::Asked::table_asked))]
+fn table_asked(
+    alloc: Global,
+    attributes: &[Attribute],
+    text: &[u8],
+) -> Result<Option<What>, NoMemory>
+    ensures { IfOk result (λ what. what ≡ table_asked attributes.now text.now) }
+{
+    let word = bytes_of(b"EditorsTableRequestType", attributes);
+    editor_asked(alloc, word, attributes, text)
+}
+
+#[tactic(auto, unfolding(crate::specs::Asked::versions_asked))]
+fn versions_asked(attributes: &[Attribute]) -> What
+    ensures { result ≡ versions_asked attributes.now }
+{
+    let word = bytes_of(b"VersioningRequestType", attributes);
+    version_asked(word, attributes)
+}
+
 #[tactic(auto, unfolding(crate::specs::Asked::what_of))]
 fn what_of(
     alloc: Global,
@@ -128,36 +172,19 @@ fn what_of(
         return cell_asked(alloc, attributes, text);
     }
     if is(kind, b"ExclusiveLock") {
-        return Ok(Some(lock_or_bad(exclusive_step(
-            bytes_of(b"ExclusiveLockRequestType", attributes),
-            attributes,
-        ))));
+        return Ok(Some(exclusive_asked(attributes)));
     }
     if is(kind, b"SchemaLock") {
-        return Ok(Some(lock_or_bad(schema_step(
-            bytes_of(b"SchemaLockRequestType", attributes),
-            attributes,
-        ))));
+        return Ok(Some(schema_asked(attributes)));
     }
     if is(kind, b"Coauth") {
-        return Ok(Some(lock_or_bad(coauth_step(
-            bytes_of(b"CoauthRequestType", attributes),
-            attributes,
-        ))));
+        return Ok(Some(coauth_asked(attributes)));
     }
     if is(kind, b"EditorsTable") {
-        return editor_asked(
-            alloc,
-            bytes_of(b"EditorsTableRequestType", attributes),
-            attributes,
-            text,
-        );
+        return table_asked(alloc, attributes, text);
     }
     if is(kind, b"Versioning") {
-        return Ok(Some(version_asked(
-            bytes_of(b"VersioningRequestType", attributes),
-            attributes,
-        )));
+        return Ok(Some(versions_asked(attributes)));
     }
     if is(kind, b"AmIAlone") {
         return Ok(Some(What::Plain { sub: Sub::AmIAlone }));
