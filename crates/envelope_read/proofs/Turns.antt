@@ -90,7 +90,7 @@ asks_end requests i n front le = ap (λ (l : List RawRequest). prepended front (
 
 pub sub_is : (sub : RawSub) (kind text : List ℕ) (a b : List Attribute) (o : Option What) (what : What) (token : List ℕ) (depend : Depend)
     → a ≡ sub.attributes → kind ≡ bytes_of (codes "Type") a → b ≡ data_attributes sub.payload → text ≡ data_text sub.payload → o ≡ what_of kind b text → o ≡ Some what
-    → token ≡ text_of (codes "SubRequestToken") a → depend ≡ depend_of a → Some {A = SubAsk} (record { token = token; depend = depend; what = what }) ≡ sub_of sub
+    → token ≡ text_of (codes "SubRequestToken") a → depend ≡ depend_of a → ◌≡◌ {A = Option SubAsk} (Some (record { token = token; depend = depend; what = what })) (sub_of sub)
 unfolding sub_of
 sub_is sub kind text a b o what token depend ea ek eb et eo es etoken edepend =
     let h : what_of kind b text ≡ Some what = sym eo ∙ es in
