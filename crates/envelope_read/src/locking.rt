@@ -68,7 +68,13 @@ fn to_shared(coauthor: bool, attributes: &[Attribute]) -> Option<LockStep>
     let schema = schema_id(attributes)?;
     let client = client_id(attributes)?;
     let timeout = timeout_at(attributes)?;
-    Some(LockStep::ToShared { id, schema, client, timeout, coauthor })
+    Some(LockStep::ToShared {
+        id,
+        schema,
+        client,
+        timeout,
+        coauthor,
+    })
 }
 
 #[tactic(auto, unfolding(crate::specs::Locking::take_shared))]
@@ -78,7 +84,12 @@ fn take_shared(coauthor: bool, attributes: &[Attribute]) -> Option<LockStep>
     let schema = schema_id(attributes)?;
     let client = client_id(attributes)?;
     let timeout = timeout_at(attributes)?;
-    Some(LockStep::TakeShared { schema, client, timeout, coauthor })
+    Some(LockStep::TakeShared {
+        schema,
+        client,
+        timeout,
+        coauthor,
+    })
 }
 
 #[tactic(auto, unfolding(crate::specs::Locking::drop_shared))]
@@ -97,7 +108,11 @@ fn refresh_shared(attributes: &[Attribute]) -> Option<LockStep>
     let schema = schema_id(attributes)?;
     let client = client_id(attributes)?;
     let timeout = timeout_at(attributes)?;
-    Some(LockStep::RefreshShared { schema, client, timeout })
+    Some(LockStep::RefreshShared {
+        schema,
+        client,
+        timeout,
+    })
 }
 
 #[tactic(auto, unfolding(crate::specs::Locking::to_exclusive))]
@@ -109,7 +124,13 @@ fn to_exclusive(attributes: &[Attribute]) -> Option<LockStep>
     let id = exclusive_id(attributes)?;
     let timeout = timeout_at(attributes)?;
     let release = flag_at(b"ReleaseLockOnConversionToExclusiveFailure", attributes);
-    Some(LockStep::ToExclusive { schema, client, id, timeout, release })
+    Some(LockStep::ToExclusive {
+        schema,
+        client,
+        id,
+        timeout,
+        release,
+    })
 }
 
 #[tactic(auto, unfolding(crate::specs::Locking::check_shared))]

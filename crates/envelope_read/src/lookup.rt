@@ -11,7 +11,9 @@ use std::alloc::Global;
 
 /// Seconds that a lock or an editor lasts where no Timeout is said; the least that they last, and the most.
 const USUAL_TIMEOUT: u64 = 3_600;
+
 const LEAST_TIMEOUT: u64 = 60;
+
 const MOST_TIMEOUT: u64 = 86_400;
 
 /// Whether it is this word.

@@ -24,10 +24,10 @@ loop-request-preserved c =
     record {
       count = omega (arith, c.len.ensures, counted requests l.request-index x c.request-item.is (omega arith), l.invariant.count);
       so_far =
-        ap (λ (xs : List Ask). prepended xs (asks_from (l.seen + c.len.result) rest)) (c.in_ok-push-in-Ok.ensures.ok ∙ ap (λ (a : Ask). l.asks ++ a ∷ []) c.in_ok-ask_with-in-Ok.ensures)
-        ∙ ap (λ (n : ℕ). prepended (l.asks ++ ask_with x c.in-Ok.subs ∷ []) (asks_from (l.seen + n) rest)) c.len.ensures
-        ∙ sym (ask_more requests l.request-index l.seen x c.request-item.is (omega arith) l.asks c.in-Ok.subs (ap (subs_from l.seen) (sym c.as_slice.ensures) ∙ sym c.in_ok-subs.ensures ∙ c.in-Ok.is))
-        ∙ l.invariant.so_far;
+          ap (λ (xs : List Ask). prepended xs (asks_from (l.seen + c.len.result) rest)) (c.in_ok-push-in-Ok.ensures.ok ∙ ap (λ (a : Ask). l.asks ++ a ∷ []) c.in_ok-ask_with-in-Ok.ensures)
+          ∙ ap (λ (n : ℕ). prepended (l.asks ++ ask_with x c.in-Ok.subs ∷ []) (asks_from (l.seen + n) rest)) c.len.ensures
+          ∙ sym (ask_more requests l.request-index l.seen x c.request-item.is (omega arith) l.asks c.in-Ok.subs (ap (subs_from l.seen) (sym c.as_slice.ensures) ∙ sym c.in_ok-subs.ensures ∙ c.in-Ok.is))
+          ∙ l.invariant.so_far;
     }
 
 pub returns : goal.returns

@@ -5,7 +5,9 @@ use Rattle.envelope_read.proofs.Turns.{none_verdict, many_verdict, read_verdict}
 use Rattle.envelope_read.proofs.read.read_envelope.Goals as goal
 
 pub returns-in-Err-NotInGrammar-clause-reads : goal.returns-in-Err-NotInGrammar-clause-reads
-returns-in-Err-NotInGrammar-clause-reads c = none_verdict c.args.text.now c.in-Err-NotInGrammar.ensures.computed
+returns-in-Err-NotInGrammar-clause-reads c =
+    let none = rw c.in-Err-NotInGrammar.field-0-is at c.in-Err-NotInGrammar.ensures.computed in
+    none_verdict c.args.text.now none
 
 pub returns-then-are_too_many-clause-reads : goal.returns-then-are_too_many-clause-reads
 returns-then-are_too_many-clause-reads c =
