@@ -1,0 +1,4 @@
+pub mod Digits
+pub mod Lookups
+pub mod Turns
+pub mod Callables

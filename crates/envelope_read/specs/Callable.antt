@@ -1,0 +1,20 @@
+-- Envelopes whose calls may be made, and how many subrequests one has.
+use Rattle.std.specs.Prelude.{ℕ, ◌+◌, List, [], ◌∷◌, length}
+use Rattle.std.specs.List.{AllByRecursion}
+use Rattle.doc_model.specs.Sound.{IsValidSub}
+use Rattle.envelope_read.specs.declared.collection.Ask.{Ask}
+use Rattle.envelope_read.specs.declared.collection.Collection.{Collection}
+use Rattle.envelope_read.specs.declared.collection.What.{What}
+use Rattle.envelope_read.specs.declared.collection.What.TheVariants as asking
+
+-- what is asked for plainly may be made; what a Cell asks is another matter
+abbrev pub IsCallable : What → Type 0
+IsCallable (asking.Plain sub) = IsValidSub sub
+IsCallable what = Unit {0}
+
+abbrev pub AreCallable : Collection → Type 0
+AreCallable collection = AllByRecursion (λ ask. AllByRecursion (λ sub. IsCallable sub.what) ask.subs) collection.requests
+
+abbrev pub subs_of : List Ask → ℕ
+subs_of [] = 0
+subs_of (ask ∷ asks) = length ask.subs + subs_of asks
