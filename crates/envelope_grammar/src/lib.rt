@@ -28,6 +28,3 @@ pub use document::read_requests;
 pub use fault::ReadFault;
 pub use raw::{Payload, RawRequest, RawRequests, RawSub, RawSubs};
 pub use tag::{Attribute, Attributes, Name, Tag};
-
-#[cfg(test)]
-mod tests;

@@ -30,6 +30,3 @@ pub use collection::{Ask, Asks, Collection, Depend, DependWord, SubAsk, SubAsks,
 pub use fault::EnvelopeFault;
 pub use outcome::{CellWord, Outcome, Outcomes, Skip};
 pub use read::read_envelope;
-
-#[cfg(test)]
-mod tests;

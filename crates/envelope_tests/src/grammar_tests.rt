@@ -1,6 +1,5 @@
-use crate::document::read_requests;
-use crate::fault::ReadFault;
 use compact_values::NoMemory;
+use envelope_grammar::{ReadFault, read_requests};
 use std::alloc::Global;
 
 /// Whether the text is in the grammar.

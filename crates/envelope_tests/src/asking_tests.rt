@@ -1,8 +1,6 @@
-use crate::collection::{Depend, DependWord, What};
-use crate::fault::EnvelopeFault;
-use crate::read::read_envelope;
 use compact_values::{Guid, NoMemory, Octets, Text};
 use doc_model::{EditorStep, LockStep, Sub};
+use envelope_read::{Depend, DependWord, EnvelopeFault, What, read_envelope};
 use std::alloc::Global;
 
 const FRONT: &str =
