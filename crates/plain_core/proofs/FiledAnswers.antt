@@ -33,7 +33,7 @@ module _ (objects : List StoredObject) (root : ExGuid) where
       not-this file (inl e) = cc
       not-this file (inr e) = absurd (memory cc)
 
-      not-large : IsOrNoMemory (Err fault) (Err faults.TooLarge) → found ≡ None
+      not-large : IsOrNoMemory {A = List ℕ} (Err fault) (Err faults.TooLarge) → found ≡ None
       not-large (inl e) = absurd (large cc)
       not-large (inr e) = absurd (memory cc)
 
