@@ -61,6 +61,9 @@ under-root added ms objects root o r =
     ap (λ xs. stored_file xs root) o ∙ filed-once added ms root ∙ ap (option_and_then (stored_file (objects_with_bytes added ms))) r
 
 module _ (added : List Element) (ms : List Manifest) (objects : List StoredObject) (root : ExGuid) (o : objects ≡ objects_in added (groups_named ms)) (r : Some root ≡ root_object ms) where
+  pub answered-file : (file : List ℕ) → IsFile objects root file → (file_with_bytes added ms ≡ Some file) × (length file ≤ largest_file)
+  answered-file file h = (sym (under-root added ms objects root o r) ∙ h.0, h.1)
+
   pub answered-fault : (answer : Result (List ℕ) NodeFault) (fault : NodeFault) (given : Result Filed NoMemory) → answer ≡ Err fault → given ≡ without_file fault
       → WhereFile objects root answer → WhereLarge objects root answer → IfOk given (λ filed. IsFiled filed (file_with_bytes added ms))
   answered-fault answer fault given a g f l =
