@@ -104,9 +104,16 @@ def revision(value, its_id, root, groups, base=None):
 
 
 def group(value, objects):
-    """Its objects: id, ids that it refers to, bytes."""
-    declared = [obj(0x18, exguid(it) + compact(1) + compact(len(data)) + compact(len(to)) + compact(0)) for it, to, data in objects]
-    held = [obj(0x16, array([exguid(one) for one in to]) + array([]) + item(data)) for it, to, data in objects]
+    """Its objects: id, ids that it refers to, and its bytes or the number of the blob that has them."""
+    declared, held = [], []
+    for it, to, data in objects:
+        counts, refers = compact(len(to)) + compact(0), array([exguid(one) for one in to]) + array([])
+        if isinstance(data, int):
+            declared.append(obj(0x05, exguid(it) + exguid(data) + compact(1) + compact(0) + counts))
+            held.append(obj(0x1C, refers + exguid(data)))
+        else:
+            declared.append(obj(0x18, exguid(it) + compact(1) + compact(len(data)) + counts))
+            held.append(obj(0x16, refers + item(data)))
     return element(5, value, [obj(0x1D, b"", declared), obj(0x1E, b"", held)])
 
 

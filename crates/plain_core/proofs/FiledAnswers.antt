@@ -11,8 +11,9 @@ use Rattle.file_nodes.specs.FileAnswers.{Exactly, IsFile, IsOrNoMemory, IsTooLar
 use Rattle.file_nodes.specs.declared.fault.NodeFault.{NodeFault}
 use Rattle.file_nodes.specs.declared.fault.NodeFault.TheVariants as faults
 use Rattle.file_nodes.specs.declared.object_map.StoredObject.{StoredObject}
-use Rattle.plain_core.specs.Filing.{IsFiled, without_file, objects_with_bytes, file_with_bytes}
+use Rattle.plain_core.specs.Filing.{IsFiled, without_file, groups_named, objects_in, objects_with_bytes, file_with_bytes}
 use Rattle.plain_core.specs.declared.file.Filed.{Filed}
+use Rattle.plain_core.proofs.FiledOnce.{filed-once}
 
 module _ (objects : List StoredObject) (root : ExGuid) where
   abbrev found : Option (List ℕ)
@@ -33,7 +34,7 @@ module _ (objects : List StoredObject) (root : ExGuid) where
       not-this file (inl e) = cc
       not-this file (inr e) = absurd (memory cc)
 
-      not-large : IsOrNoMemory (Err fault) (Err faults.TooLarge) → found ≡ None
+      not-large : IsOrNoMemory {A = List ℕ} (Err fault) (Err faults.TooLarge) → found ≡ None
       not-large (inl e) = absurd (large cc)
       not-large (inr e) = absurd (memory cc)
 
@@ -54,12 +55,15 @@ module _ (objects : List StoredObject) (root : ExGuid) where
   by-fault (faults.SizeDiffers size other) f l = no-file (faults.SizeDiffers size other) (λ e. cc) (λ e. cc) f l
 
 -- the file of the first root of these revisions
-under-root : (added : List Element) (ms : List Manifest) (objects : List StoredObject) (root : ExGuid) → objects ≡ objects_with_bytes added ms → Some root ≡ root_object ms
-    → stored_file objects root ≡ file_with_bytes added ms
+pub under-root : (added : List Element) (ms : List Manifest) (objects : List StoredObject) (root : ExGuid) → objects ≡ objects_in added (groups_named ms)
+    → Some root ≡ root_object ms → stored_file objects root ≡ file_with_bytes added ms
 under-root added ms objects root o r =
-    ap (λ xs. stored_file xs root) o ∙ ap (option_and_then (stored_file (objects_with_bytes added ms))) r
+    ap (λ xs. stored_file xs root) o ∙ filed-once added ms root ∙ ap (option_and_then (stored_file (objects_with_bytes added ms))) r
 
-module _ (added : List Element) (ms : List Manifest) (objects : List StoredObject) (root : ExGuid) (o : objects ≡ objects_with_bytes added ms) (r : Some root ≡ root_object ms) where
+module _ (added : List Element) (ms : List Manifest) (objects : List StoredObject) (root : ExGuid) (o : objects ≡ objects_in added (groups_named ms)) (r : Some root ≡ root_object ms) where
+  pub answered-file : (file : List ℕ) → IsFile objects root file → (file_with_bytes added ms ≡ Some file) × (length file ≤ largest_file)
+  answered-file file h = (sym (under-root added ms objects root o r) ∙ h.0, h.1)
+
   pub answered-fault : (answer : Result (List ℕ) NodeFault) (fault : NodeFault) (given : Result Filed NoMemory) → answer ≡ Err fault → given ≡ without_file fault
       → WhereFile objects root answer → WhereLarge objects root answer → IfOk given (λ filed. IsFiled filed (file_with_bytes added ms))
   answered-fault answer fault given a g f l =

@@ -1,10 +1,12 @@
 -- The file at an index, as it is answered.
-use Rattle.std.specs.Prelude.{◌≡◌, ℕ, ◌<◌, ◌≤◌, List, [], map, length, Option, None, Some, option_and_then, unwrap_or, Result, Ok, Err}
+use Rattle.std.specs.Prelude.{◌≡◌, ℕ, ◌<◌, ◌≤◌, List, [], map, flat_map, length, Option, None, Some, option_and_then, unwrap_or, Result, Ok, Err}
+use Rattle.compact_values.specs.declared.ids.ExGuid.{ExGuid}
 use Rattle.doc_model.specs.declared.element.Element.{Element}
 use Rattle.doc_model.specs.declared.element.Object.{Object}
-use Rattle.doc_model.specs.Files.{objects_of, own_bytes, root_object}
+use Rattle.doc_model.specs.Files.{group_objects, objects_of, own_bytes, root_object}
 use Rattle.doc_model.specs.Finding.{Manifest}
 use Rattle.doc_model.specs.Limits.{most_file}
+use Rattle.doc_model.specs.Reached.{each_once}
 use Rattle.file_nodes.specs.FileAnswers.{stored_file}
 use Rattle.file_nodes.specs.declared.object_map.StoredObject.{StoredObject}
 use Rattle.file_nodes.specs.declared.fault.NodeFault.{NodeFault}
@@ -22,6 +24,13 @@ IsFiled (File bytes) file = (file ≡ Some bytes) × (length bytes ≤ most_file
 -- an object with its own bytes, none where its blob isn't there
 abbrev pub stored : List Element → Object → StoredObject
 stored added o = record { id = o.id; references = o.references; bytes = unwrap_or (own_bytes added o.content) [] }
+
+-- the groups that these revisions name, each once, and the objects of groups
+abbrev pub groups_named : List Manifest → List ExGuid
+groups_named manifests = each_once (flat_map (λ m. m.groups) manifests)
+
+abbrev pub objects_in : List Element → List ExGuid → List StoredObject
+objects_in added groups = map (stored added) (flat_map (group_objects added) groups)
 
 abbrev pub objects_with_bytes : List Element → List Manifest → List StoredObject
 objects_with_bytes added manifests = map (stored added) (objects_of added manifests)

@@ -1,20 +1,24 @@
 // The file at an index.
-ghost use Rattle.std.specs.Prelude.{◌≡◌, ◌∷◌, ◌++◌, None, map, flat_map, IfOk, OnOk, option_map, option_copied, option_and_then, find, []};
+ghost use Rattle.std.specs.Prelude.{◌≡◌, ◌∷◌, ◌++◌, None, map, IfOk, OnOk, option_map, option_copied, option_and_then, find, []};
 ghost use Rattle.compact_values.specs.SameIds.{same_cell};
-ghost use Rattle.doc_model.specs.Files.{current_revision, root_chain, group_objects, own_bytes, root_object, file};
+ghost use Rattle.doc_model.specs.Files.{current_revision, root_chain, own_bytes, root_object, file};
 ghost use Rattle.doc_model.specs.Finding.{said, as_cell};
 ghost use Rattle.doc_model.specs.Reached.{absent, chain, longest};
 ghost use Rattle.plain_core.specs.Cataloging.{listed};
-ghost use Rattle.plain_core.specs.Filing.{IsFiled, without_file, stored, objects_with_bytes, file_with_bytes};
+ghost use Rattle.plain_core.specs.Filing.{IsFiled, without_file, stored, groups_named, objects_in, file_with_bytes};
 ghost use Rattle.plain_core.specs.Sayings.{seen_mappings, seen_manifest};
 
 use crate::catalog::Catalog;
+use crate::once::Once;
 use crate::revisions::Revisions;
 use crate::sayings::{Manifest, Mappings};
 use compact_values::{CellId, ExGuid, NoMemory, Octets};
 use doc_model::{CellMap, Content, Object};
 use file_nodes::{NodeFault, ObjectMap, file_of};
 use std::alloc::Global;
+
+/// The most bytes of objects that are copied for one file: as many as all elements of a document may weigh.
+const MOST_COPIED: usize = 128 * 1_048_576;
 
 /// The file at an index.
 #[derive(Debug, Drop)]
@@ -38,8 +42,8 @@ pub fn file_at(alloc: Global, catalog: &Catalog<'_>, index: ExGuid) -> Result<Fi
     }
 }
 
-// The manifests of the root cell's revisions, the current one first.
-fn root_chain<'a>(
+/// The manifests of the root cell's revisions, the current one first.
+pub fn root_chain<'a>(
     alloc: Global,
     catalog: &'a Catalog<'_>,
     index: ExGuid,
@@ -151,8 +155,8 @@ fn without_file(fault: NodeFault) -> Result<Filed, NoMemory>
     }
 }
 
-// The object of the first root along these revisions.
-fn root_object(manifests: &[Manifest<'_>]) -> Option<ExGuid>
+/// The object of the first root along these revisions.
+pub fn root_object(manifests: &[Manifest<'_>]) -> Option<ExGuid>
     ensures { result ≡ root_object (map seen_manifest manifests.now) }
 {
     for manifest in manifests {
@@ -163,55 +167,83 @@ fn root_object(manifests: &[Manifest<'_>]) -> Option<ExGuid>
     None
 }
 
-// The objects of these revisions, in order.
-fn objects_of(
+// The groups that these revisions name, each once.
+fn groups_named(alloc: Global, manifests: &[Manifest<'_>]) -> Result<Once, NoMemory>
+    ensures { IfOk result (λ groups. groups ≡ groups_named (map seen_manifest manifests.now)) }
+{
+    let mut groups = Once::new(alloc);
+    for manifest in manifests {
+        groups.join_all(manifest.groups.as_slice())?;
+    }
+    Ok(groups)
+}
+
+// The objects of these groups, in order.
+fn objects_in(
     alloc: Global,
     catalog: &Catalog<'_>,
-    manifests: &[Manifest<'_>],
+    groups: &[ExGuid],
 ) -> Result<ObjectMap, NoMemory>
-    ensures { IfOk result (λ all. all ≡ objects_with_bytes (listed catalog.now) (map seen_manifest manifests.now)) }
+    ensures { IfOk result (λ all. all ≡ objects_in (listed catalog.now) groups.now) }
 {
     let mut all = ObjectMap::new(alloc);
-    for manifest in manifests {
-        add_groups(catalog, manifest.groups.as_slice(), &mut all)?;
+    let mut left = MOST_COPIED;
+    for group in groups {
+        match catalog.group_at(*group) {
+            None => {}
+            Some(objects) => add_objects(catalog, objects.as_slice(), &mut all, &mut left)?,
+        }
     }
     Ok(all)
 }
 
-// Adds the objects of these groups.
-fn add_groups(catalog: &Catalog<'_>, groups: &[ExGuid], all: &mut ObjectMap) -> Result<(), NoMemory>
-    ensures { OnOk result (all.new ≡ all.old ++ map (stored (listed catalog.now)) (flat_map (group_objects (listed catalog.now)) groups.now)) }
+/// The objects of these revisions. A group that several of them name is copied once. Objects that name one blob have a copy
+/// each, and more than 128 MiB of copies are answered as want of memory.
+pub fn objects_of(
+    alloc: Global,
+    catalog: &Catalog<'_>,
+    manifests: &[Manifest<'_>],
+) -> Result<ObjectMap, NoMemory>
+    ensures { IfOk result (λ all. all ≡ objects_in (listed catalog.now) (groups_named (map seen_manifest manifests.now))) }
 {
-    for group in groups {
-        match catalog.group_at(*group) {
-            None => {}
-            Some(objects) => add_objects(catalog, objects.as_slice(), all)?,
-        }
-    }
-    Ok(())
+    let groups = groups_named(alloc, manifests)?;
+    let objects = objects_in(alloc, catalog, groups.as_slice())?;
+    Ok(objects)
 }
 
-// Adds these objects.
+// Adds these objects, where so many bytes may still be copied.
 fn add_objects(
     catalog: &Catalog<'_>,
     objects: &[Object],
     all: &mut ObjectMap,
+    left: &mut usize,
 ) -> Result<(), NoMemory>
     ensures { OnOk result (all.new ≡ all.old ++ map (stored (listed catalog.now)) objects.now) }
 {
     for object in objects {
-        add_object(catalog, object, all)?;
+        add_object(catalog, object, all, left)?;
     }
     Ok(())
 }
 
 // Adds an object with its own bytes, none where its blob isn't there.
-fn add_object(catalog: &Catalog<'_>, object: &Object, all: &mut ObjectMap) -> Result<(), NoMemory>
+fn add_object(
+    catalog: &Catalog<'_>,
+    object: &Object,
+    all: &mut ObjectMap,
+    left: &mut usize,
+) -> Result<(), NoMemory>
     ensures { OnOk result (all.new ≡ all.old ++ stored (listed catalog.now) object.now ∷ []) }
 {
     match own_bytes(catalog, &object.content) {
         None => all.add(object.id, &object.references, &[]),
-        Some(bytes) => all.add(object.id, &object.references, bytes.as_slice()),
+        Some(bytes) => {
+            if bytes.len() > *left {
+                return Err(NoMemory);
+            }
+            *left -= bytes.len();
+            all.add(object.id, &object.references, bytes.as_slice())
+        }
     }
 }
 
