@@ -12,9 +12,15 @@ mod put_tests;
 mod serving;
 mod status;
 #[cfg(test)]
+mod test_bytes;
+#[cfg(test)]
+mod test_calls;
+#[cfg(test)]
+mod test_files;
+#[cfg(test)]
 mod tests;
 #[cfg(test)]
-mod upload_tests;
+mod wire_tests;
 
 use host::{host_once, tell};
 use host_edge::{StdSink, StdSource, SystemClock};
