@@ -1,3 +1,5 @@
 mod Words
 mod FewObjects
 mod Forms
+mod Taken
+mod Asked
