@@ -57,7 +57,6 @@ fn numbers_are_drawn(rt: HostRuntime) -> Result<(), Fail> {
                 &[0x28, 0x00],
                 &DOCUMENT,
                 most_granted,
-                &[0x00],
                 &ANSWER_END,
                 &RESPONSE_END,
             ],
