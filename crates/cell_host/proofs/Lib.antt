@@ -2,4 +2,3 @@ mod Words
 mod FewObjects
 mod Forms
 mod Taken
-mod Asked
