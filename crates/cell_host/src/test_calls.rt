@@ -1,6 +1,6 @@
 // What clients ask in the tests, and what they must be answered.
 use crate::host::host_once;
-use crate::test_files::{Brought, DOCUMENT, brought};
+use crate::test_files::{Brought, DOCUMENT, elements_of};
 use compact_values::{ExGuid, NoMemory, Seq};
 use doc_model::{
     CellRequest, CellResponse, Element, Knowledge, Range, Ranges, Seen, WireKind, WireSub,
@@ -182,7 +182,7 @@ pub(crate) fn play(
     for (ask, _) in rows {
         subs.push(sub_of(alloc, *ask)?)?;
     }
-    let elements = brought(alloc, what)?;
+    let elements = elements_of(alloc, what)?;
     let sent = CellRequest { subs, elements };
     let response = answered(alloc, &sent)?;
     assert!(rt; are_wanted(response.answers.as_slice(), rows));

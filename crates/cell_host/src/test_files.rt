@@ -45,7 +45,7 @@ pub(crate) enum Brought {
 }
 
 /// The elements that a request brings.
-pub(crate) fn brought(alloc: Global, what: Brought) -> Result<Elements, Fail> {
+pub(crate) fn elements_of(alloc: Global, what: Brought) -> Result<Elements, Fail> {
     match what {
         Brought::Nothing => Ok(Seq::new(alloc)),
         Brought::Small(guid) => cut(alloc, b"a small file", guid),
