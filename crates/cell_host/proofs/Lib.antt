@@ -1,3 +1,4 @@
 mod Words
 mod FewObjects
 mod Forms
+mod Taken

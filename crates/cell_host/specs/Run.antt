@@ -1,13 +1,14 @@
 -- What a run of the program does, by its command. A further command is a further case of the definitions of the
 -- first part; those of the second part stay.
-use Rattle.std.specs.Prelude.{◌≡◌, ◌⊎◌, ℕ, List, drop, IsNone, None, Some}
+use Rattle.std.specs.Prelude.{◌≡◌, ◌⊎◌, ℕ, ◌<◌, ◌≤◌, List, length, drop, IsNone, None, Some}
 use Rattle.std.specs.declared.option.Option.{Option}
 use Rattle.std.specs.Option.{option_map}
 use Rattle.std.specs.Io.KnownBytes.{Appends, Keeps, IsAtEnd}
 use Rattle.host_edge.specs.Causes.{Rose}
 use Rattle.host_edge.specs.Streams.{AppendsFront}
 use Rattle.cell_host.specs.Answer.{IsAccepted, Answers}
-use Rattle.cell_host.specs.Input.{TakesAtMost}
+use Rattle.cell_host.specs.Input.{TakesFront}
+use Rattle.cell_host.specs.Status.{line_of}
 use Rattle.cell_host.specs.declared.command.Command.{Command}
 use Rattle.cell_host.specs.declared.command.Command.TheVariants.{Answer}
 use Rattle.cell_host.specs.declared.status.Status.{Status}
@@ -49,20 +50,30 @@ abbrev pub LeavesOut : Option Command → Status → Option (List ℕ) → Optio
 LeavesOut None status before now = Keeps before now
 LeavesOut (Some (Answer guid)) Refused before now = Keeps before now
 LeavesOut (Some (Answer guid)) ReadFault before now = Keeps before now
+LeavesOut (Some (Answer guid)) NoMemory before now = Keeps before now
 LeavesOut (Some (Answer guid)) status before now = Unit {0}
 
 -- the clock was asked this often
 abbrev pub Asked : ℕ → Option (List ℕ) → Option (List ℕ) → Type 0
 Asked times before now = now ≡ option_map (drop times) before
 
--- the clock was asked as often as a run asks that ends so: right after the input has ended
-abbrev pub Asks : Option Command → Status → Option (List ℕ) → Option (List ℕ) → Type 0
-Asks None status before now = Asked 0 before now
-Asks (Some (Answer guid)) Done before now = Asked 1 before now
-Asks (Some (Answer guid)) WriteFault before now = Asked 1 before now
-Asks (Some (Answer guid)) Refused before now = Asked 0 before now ⊎ Asked 1 before now
-Asks (Some (Answer guid)) NoMemory before now = Asked 0 before now ⊎ Asked 1 before now
-Asks (Some (Answer guid)) status before now = Asked 0 before now
+-- the clock was asked once, or not at all
+abbrev pub AskedOnceAtMost : Option (List ℕ) → Option (List ℕ) → Type 0
+AskedOnceAtMost before now = Asked 0 before now ⊎ Asked 1 before now
+
+-- the clock was asked once if the input, where it is told, is not too long, else not at all
+abbrev pub AskedByLength : Option (List ℕ) → Option (List ℕ) → Option (List ℕ) → Type 0
+AskedByLength None before now = AskedOnceAtMost before now
+AskedByLength (Some input) before now = (length input ≤ 25_165_824 → Asked 1 before now) × (25_165_824 < length input → Asked 0 before now)
+
+-- the clock was asked as often as a run asks that ends so: right after the input has ended, which the source had left
+abbrev pub Asks : Option Command → Status → Option (List ℕ) → Option (List ℕ) → Option (List ℕ) → Type 0
+Asks None status left before now = Asked 0 before now
+Asks (Some (Answer guid)) Done left before now = Asked 1 before now
+Asks (Some (Answer guid)) WriteFault left before now = Asked 1 before now
+Asks (Some (Answer guid)) Refused left before now = AskedByLength left before now
+Asks (Some (Answer guid)) NoMemory left before now = AskedOnceAtMost before now
+Asks (Some (Answer guid)) status left before now = Asked 0 before now
 
 -- ---- for every command
 
@@ -115,6 +126,11 @@ pub record Runs (command : Option Command) (before after : View) (status : Statu
       → ¬ Rose before.write_faults after.write_faults → (status ≡ Done) ⊎ (status ≡ NoMemory)
   -- no fault was passed over
   pub unfailed : status ≡ Done → (after.read_faults ≡ before.read_faults) × (after.write_faults ≡ before.write_faults)
-  -- the source gives up so many bytes at most, and the clock is asked when the input has ended
-  pub taken : TakesAtMost (most_taken command) before.taken after.taken
-  pub asked : Asks command status before.told after.told
+  -- the source gives up a front of so many bytes at most, and the clock is asked when the input has ended
+  pub taken : TakesFront (most_taken command) before.left after.left before.taken after.taken
+  pub asked : Asks command status before.left before.told after.told
+
+-- The line of the status went to the error sink, or, where that failed, a front of it.
+pub record Tells (status : Status) (held held_now : Option (List ℕ)) (faults faults_now : ℕ) : Type 0 where
+  pub front : AppendsFront held held_now (line_of status)
+  pub whole : ¬ Rose faults faults_now → Appends held held_now (line_of status)

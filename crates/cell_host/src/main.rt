@@ -12,12 +12,19 @@ mod put_tests;
 mod serving;
 mod status;
 #[cfg(test)]
+mod test_bytes;
+#[cfg(test)]
+mod test_calls;
+#[cfg(test)]
+mod test_files;
+#[cfg(test)]
 mod tests;
 #[cfg(test)]
-mod upload_tests;
+mod wire_tests;
 
-use host::host_once;
+use host::{host_once, tell};
 use host_edge::{StdSink, StdSource, SystemClock};
+use status::Status;
 use std::process::ExitCode;
 use std::{env, io};
 
@@ -27,19 +34,26 @@ fn words_given(rt: &HostRuntime) -> io::Result<Vec<String>> {
     Ok(words)
 }
 
-fn main(rt: HostRuntime) -> ExitCode {
+// Does what the words ask for.
+fn run(rt: HostRuntime, words: &[String]) -> io::Result<u8> {
     let alloc = rt.alloc();
-    // Words that are no text are in no form, and neither are no words.
-    let given = words_given(&rt).unwrap_or(Vec::new(alloc));
-    let words: Vec<&str> = given
-        .iter()
-        .map(|word| word.as_str())
-        .collect(alloc)
-        .unwrap_or(Vec::new(alloc));
+    let words: Vec<&str> = words.iter().map(|word| word.as_str()).collect(alloc)?;
     let mut source = StdSource::new(rt.stdin());
     let mut out = StdSink::new(rt.stdout());
     let mut err = StdSink::new(rt.stderr());
     let mut clock = SystemClock::new(rt);
-    let status = host_once(alloc, &words, &mut source, &mut out, &mut err, &mut clock);
+    Ok(host_once(alloc, &words, &mut source, &mut out, &mut err, &mut clock))
+}
+
+fn main(rt: HostRuntime) -> ExitCode {
+    let mut err = StdSink::new(rt.stderr());
+    let ended = match words_given(&rt) {
+        Ok(words) => run(rt, &words),
+        Err(error) => Err(error),
+    };
+    let status = match ended {
+        Ok(status) => status,
+        Err(error) => tell(&mut err, Status::without_words(&error)),
+    };
     ExitCode::from(status)
 }
