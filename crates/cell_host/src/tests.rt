@@ -177,18 +177,18 @@ fn other_forms_are_refused(rt: HostRuntime) -> Result<(), Fail> {
     let alloc = rt.alloc();
     let mut version = EXAMPLE;
     version[0] = 11;
+    refuses(&rt, alloc, &version)?;
     let mut signature = EXAMPLE;
     signature[4] = 0x9D;
+    refuses(&rt, alloc, &signature)?;
     let kind_2: &[u8] = &[
         0x16, 0x02, 0x06, 0x00, 0x03, 0x05, 0x00, 0x02, 0x04, 0x06, 0x00, 0xA2, 0x0F, 0x00, 0x0B,
         0x01,
     ];
     let package: &[u8] = &[0xAC, 0x02, 0x00, 0x55];
     let end: &[u8] = &[0x03, 0x01];
-    let forms: [&[&[u8]]; 8] = [
+    let forms: [&[&[u8]]; 6] = [
         &[&EXAMPLE, &[0]],
-        &[&version],
-        &[&signature],
         &[&FRONT, kind_2, &END],
         &[&FRONT, &SUB, &THOUSAND, &SUB_END, package, &END],
         &[&FRONT, &SUB, &THOUSAND, &SUB_END, end],
