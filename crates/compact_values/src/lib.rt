@@ -52,6 +52,3 @@ pub use take::{
     take_long, take_serial,
 };
 pub use text::{Names, Text};
-
-#[cfg(test)]
-mod tests;

@@ -23,6 +23,3 @@ pub use body::{BODY_LIMIT, BodyReader, Fed, Framing, LINE_LIMIT, Place};
 pub use head::{HEAD_LIMIT, HeadEnd, head_end};
 pub use request::{Head, read_head};
 pub use target::Route;
-
-#[cfg(test)]
-mod tests;

@@ -11,4 +11,3 @@ pub mod FewObjects
 pub mod Wholes
 pub mod Joining
 pub mod Planning
-pub mod EmptySound

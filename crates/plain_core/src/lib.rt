@@ -28,11 +28,7 @@ mod catalog;
 mod chains;
 mod checking;
 mod content;
-#[cfg(test)]
-mod editor_tests;
 mod file;
-#[cfg(test)]
-mod history_tests;
 mod links;
 mod naming;
 mod once;
@@ -48,19 +44,7 @@ mod reaching;
 mod revisions;
 mod sayings;
 mod serials;
-#[cfg(test)]
-mod test_calls;
-#[cfg(test)]
-mod test_files;
-#[cfg(test)]
-mod test_table;
-#[cfg(test)]
-mod tests;
-#[cfg(test)]
-mod upload_tests;
 mod uploads;
-#[cfg(test)]
-mod version_tests;
 mod weighing;
 
 pub use plain::{Change, PlainCore};

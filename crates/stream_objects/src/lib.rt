@@ -26,6 +26,3 @@ pub use objects::{compound_fields, fields_of, has_no_child, only_child, simple_f
 pub use reading::read_tree;
 pub use tree::{Tree, Trees};
 pub use written::begin;
-
-#[cfg(test)]
-mod tests;

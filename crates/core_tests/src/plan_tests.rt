@@ -1,10 +1,10 @@
 // Numbers and locks of a document, and plans that are dropped.
-use crate::plain::PlainCore;
 use crate::test_calls::{Fault, G, L, draw, drawn, lock, locked, refused, upload};
 use crate::test_files::id;
 use crate::test_table::{Table, play};
 use compact_values::{ExGuid, Guid, NoMemory, Seq, Text};
 use doc_model::{Call, Coauthors, Code, Core, Doc, LockKind, LockRecord, LockStep, Put, Sub};
+use plain_core::PlainCore;
 use std::alloc::Global;
 use std::test::Fail;
 

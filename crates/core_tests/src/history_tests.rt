@@ -1,5 +1,4 @@
 // A history with every kind of call, and the document that it leads to.
-use crate::plain::PlainCore;
 use crate::test_calls::{
     Fault, G, L, draw, drawn, file, join, leave, lock, locked, made, pull, pulled, range, refused,
     remove_key, restore, set_key, stored, upload, versions,
@@ -10,6 +9,7 @@ use crate::test_files::{
 use crate::test_table::{Row, Table, make_all};
 use compact_values::{ExGuid, Guid, Seq, Text};
 use doc_model::{Coauthors, Code, Core, EditorStep, Elements, LockKind, LockStep, Reply, Sub};
+use plain_core::PlainCore;
 use std::alloc::Global;
 use std::test::Fail;
 

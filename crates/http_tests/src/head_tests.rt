@@ -1,6 +1,6 @@
 // Heads, bodies and answers as they come over the wire, and what no clause can say: that memory which is there is had.
-use crate::*;
 use compact_values::{Names, NoMemory, Octets, Text};
+use http_head::*;
 use std::alloc::Global;
 use std::test::Fail;
 

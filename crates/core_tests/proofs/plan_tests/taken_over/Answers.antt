@@ -1,5 +1,5 @@
-use Rattle.plain_core.proofs.EmptySound.{sound_copy}
-use Rattle.plain_core.proofs.tests.taken_over.Goals as goal
+use Rattle.core_tests.proofs.EmptySound.{sound_copy}
+use Rattle.core_tests.proofs.plan_tests.taken_over.Goals as goal
 
 -- the copy is the new document, which has nothing
 pub from_doc-requires : goal.from_doc-requires

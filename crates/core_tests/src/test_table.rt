@@ -1,8 +1,8 @@
 // Calls in order, each with what it does.
-use crate::plain::PlainCore;
 use crate::test_calls::{Fault, G, call, made};
 use compact_values::Seq;
 use doc_model::{Call, Core, Reply, Sub};
+use plain_core::PlainCore;
 use std::alloc::Global;
 use std::process::Abort;
 use std::test::Fail;
