@@ -32,9 +32,11 @@ def guid(text):
 
 
 def exguid(value=None, of=FILES):
-    """An extended GUID; without a value the null one."""
+    """An extended GUID: the value is a number of that GUID, or a pair of another GUID's text and a number. Without a value
+    the null one."""
     if value is None:
         return b"\0"
+    of, value = value if isinstance(value, tuple) else (of, value)
     for width, bits, mark in ((1, 5, 4), (2, 10, 32), (3, 17, 64)):
         if value < 1 << bits:
             return ((value << {1: 3, 2: 6, 3: 7}[width]) | mark).to_bytes(width, "little") + guid(of)
