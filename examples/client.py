@@ -30,6 +30,10 @@ class Wrong(Exception):
     """An answer isn't what the documents foretell."""
 
 
+# What may come of running a program, and of an answer that names what isn't there.
+FAULTS = (Wrong, OSError, LookupError, StopIteration)
+
+
 def expect(what, found, wanted):
     if found != wanted:
         raise Wrong(f"{what}: {found!r} in place of {wanted!r}")
@@ -51,14 +55,18 @@ class Fields:
     def number(self, width):
         return int.from_bytes(self.take(width), "little")
 
+    def next(self):
+        """The byte that stands here, which isn't taken."""
+        expect("whether a byte is left", self.at < len(self.data), True)
+        return self.data[self.at]
+
     def zeros(self):
         """How many low bits of the next byte are 0: the form of a compact integer and of an extended GUID."""
-        byte = self.data[self.at]
-        return (byte & -byte).bit_length() - 1
+        return (self.next() & -self.next()).bit_length() - 1
 
     def null(self):
         """Whether a null stands here, which is taken."""
-        return self.data[self.at] == 0 and self.take(1) == b"\0"
+        return self.next() == 0 and self.take(1) == b"\0"
 
     def compact(self):
         if self.null():
@@ -110,15 +118,15 @@ class Object(NamedTuple):
 
 def read_object(fields):
     """The object that begins here, with all that it holds."""
-    wide = fields.data[fields.at] & 3 == 2
+    wide = fields.next() & 3 == 2
     head = fields.number(4 if wide else 2)
     kind, length = (head >> 3 & 0x3FFF, head >> 17) if wide else (head >> 3 & 0x3F, head >> 9)
     length = fields.compact() if wide and length == 0x7FFF else length
     held, children = fields.take(length), []
     if head & 4:
-        while not fields.data[fields.at] & 1:
+        while not fields.next() & 1:
             children.append(read_object(fields))
-        expect("type of an end", fields.number(2 if fields.data[fields.at] & 2 else 1) >> 2, kind)
+        expect("type of an end", fields.number(2 if fields.next() & 2 else 1) >> 2, kind)
     return Object(kind, held, children)
 
 
@@ -332,8 +340,8 @@ def session(program):
 def main(words):
     try:
         session(program_of(words))
-    except (Wrong, OSError) as fault:
-        print(f"examples/client.py: {fault}", file=sys.stderr)
+    except FAULTS as fault:
+        print(f"examples/client.py: {fault!r}", file=sys.stderr)
         return 1
     print("two saves were stored, and both downloads have the second one's file")
     return 0
