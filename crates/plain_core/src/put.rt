@@ -17,18 +17,9 @@ use crate::pull::{ranges_of, stored_index};
 use crate::serials::{ids_of, serials_in};
 use crate::weighing::{weigh, weigh_parts};
 use compact_values::{Copied, ExGuid, Guid, NoMemory, Seq};
+use doc_model::limits::{MOST_ADDED, MOST_ADDED_WEIGHT, MOST_PARTS, MOST_PARTS_WEIGHT};
 use doc_model::{Code, Commit, Element, Elements, Part, Put, Ranges};
 use std::alloc::Global;
-
-/// The most elements that a document may have, and what they may weigh together.
-const MOST_ADDED: usize = 200_000;
-
-const MOST_ADDED_WEIGHT: u128 = 128 * 1_048_576;
-
-/// The most uploads that aren't complete, and what their elements may weigh together.
-const MOST_PARTS: usize = 8;
-
-const MOST_PARTS_WEIGHT: u128 = 64 * 1_048_576;
 
 /// What an upload speaks of: the elements that were kept for it, and then those of its package.
 #[derive(Clone, Copy)]

@@ -11,11 +11,9 @@ ghost use Rattle.plain_core.specs.Weighing.{all_few};
 use crate::catalog::Catalog;
 use crate::naming::names;
 use compact_values::{ExGuid, IdIndex, NoMemory};
+use doc_model::limits::MOST_REACHED_WEIGHT;
 use doc_model::{Element, Name, weight};
 use std::alloc::Global;
-
-/// The most that the elements weigh that are reached from one index: 24 MiB.
-const HEAVIEST: u128 = 25_165_824;
 
 /// Whether the elements that are reached from the index weigh more than 24 MiB.
 pub fn is_heavy(alloc: Global, catalog: &Catalog<'_>, index: ExGuid) -> Result<bool, NoMemory>
@@ -24,7 +22,12 @@ pub fn is_heavy(alloc: Global, catalog: &Catalog<'_>, index: ExGuid) -> Result<b
 {
     let all = names(alloc, catalog, index)?;
     let named = ids_of(alloc, all.as_slice())?;
-    Ok(weigh_more(&named, catalog.added(), catalog.fresh(), HEAVIEST))
+    Ok(weigh_more(
+        &named,
+        catalog.added(),
+        catalog.fresh(),
+        MOST_REACHED_WEIGHT,
+    ))
 }
 
 // The ids of these names.

@@ -3,11 +3,9 @@ ghost use Rattle.std.specs.Prelude.{◌≡◌, ◌<◌, ◌^◌, IfOk};
 ghost use Rattle.doc_model.specs.Puts.{pending, other_parts};
 
 use compact_values::{Copied, ExGuid, NoMemory, Seq};
+use doc_model::limits::DAY;
 use doc_model::{Element, Part, Parts};
 use std::alloc::Global;
-
-/// Seconds that an upload is kept for.
-const DAY: u64 = 86_400;
 
 /// The elements that are kept for an index.
 pub fn pending(parts: &[Part], index: ExGuid) -> &[Element]
