@@ -4,6 +4,7 @@ pub mod FoundPlaces
 pub mod Growing
 pub mod SentSerials
 pub mod ChainSteps
+pub mod KeyedCells
 pub mod FiledOnce
 pub mod FiledAnswers
 pub mod BlobsFound

@@ -9,3 +9,4 @@ pub mod Filing
 pub mod Refusing
 pub mod Reaching
 pub mod Naming
+pub mod Keys

@@ -1,10 +1,12 @@
 //! A document kept as its lists: each call looks through them.
 //!
 //! - `catalog`: the elements, found by their ids, and what they say
+//! - `cells`: mappings of cells, each cell once
 //! - `chains`: whether the chains of bases of an index end
 //! - `checking`: whether the elements of an upload may be added
 //! - `content`: why what an index says refuses an upload
 //! - `file`: the file at an index
+//! - `keys`: ids as keys of a map
 //! - `links`: the revisions, groups and blobs that an index names, each once
 //! - `naming`: what an index names
 //! - `once`: a list of ids, each of them once
@@ -25,10 +27,12 @@
 #![tactic(auto)]
 
 mod catalog;
+mod cells;
 mod chains;
 mod checking;
 mod content;
 mod file;
+mod keys;
 mod links;
 mod naming;
 mod once;

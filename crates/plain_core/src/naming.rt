@@ -4,10 +4,13 @@ ghost use Rattle.std.specs.List.{list_any};
 ghost use Rattle.doc_model.specs.Finding.{said, firsts, with_new, as_index, as_storage, as_cell, as_group, as_blob};
 ghost use Rattle.doc_model.specs.Reached.{manifest_of, base_of, named_along, enough, named_revisions, name, revision_name, mapping_of, groups_of, blobs_of, blob_of, same_cells, cells_of, current_of, currents_of, storage_name, cell_name, group_name, blob_name, names_below, names};
 ghost use Rattle.plain_core.specs.Cataloging.{listed};
+ghost use Rattle.plain_core.specs.Naming.{IsBelow, names_of};
 ghost use Rattle.plain_core.specs.Sayings.{seen_mappings, seen_manifest};
 
 use crate::catalog::Catalog;
+use crate::cells::CellsOnce;
 use crate::links::{name_blobs, name_groups, name_revisions};
+use crate::once::Once;
 use crate::revisions::Revisions;
 use crate::sayings::Mappings;
 use compact_values::{ExGuid, Ids, NoMemory, Seq};
@@ -18,19 +21,11 @@ use std::alloc::Global;
 pub fn cells_of(alloc: Global, cells: &[CellMap]) -> Result<CellMaps, NoMemory>
     ensures { IfOk result (λ kept. kept ≡ firsts same_cells cells.now) }
 {
-    let mut kept = Seq::new(alloc);
+    let mut once = CellsOnce::new(alloc);
     for c in cells {
-        if !has_cell(kept.as_slice(), c) {
-            kept.push(*c)?;
-        }
+        once.join(c)?;
     }
-    Ok(kept)
-}
-
-fn has_cell(kept: &[CellMap], c: &CellMap) -> bool
-    ensures { result ≡ list_any (same_cells c.now) kept.now }
-{
-    kept.iter().any(|k| c.cell.is(k.cell))
+    Ok(once.into_maps())
 }
 
 /// The current revisions of the cells.
@@ -157,6 +152,55 @@ fn add_blobs(catalog: &Catalog<'_>, blobs: &[ExGuid], all: &mut Namings) -> Resu
     Ok(())
 }
 
+/// What an index names below itself, each kind once.
+#[derive(Drop)]
+struct Below<'a> {
+    revisions: Revisions<'a>,
+    cells: CellMaps,
+    named: Once,
+    groups: Once,
+    blobs: Once,
+}
+
+// What these mappings name.
+fn gathered<'a>(
+    alloc: Global,
+    catalog: &Catalog<'_>,
+    maps: Mappings<'a>,
+) -> Result<Below<'a>, NoMemory>
+    ensures { IfOk result (λ all. IsBelow (listed catalog.now) (seen_mappings maps.entry) all) }
+{
+    let cells = cells_of(alloc, maps.cells.as_slice())?;
+    let currents = currents_of(alloc, catalog, cells.as_slice())?;
+    let revisions = Revisions::new(alloc, maps.revisions.as_slice())?;
+    let named = name_revisions(alloc, catalog, &revisions, currents.as_slice())?;
+    let groups = name_groups(alloc, catalog, &revisions, named.as_slice())?;
+    let blobs = name_blobs(alloc, catalog, groups.as_slice())?;
+    Ok(Below {
+        revisions,
+        cells,
+        named,
+        groups,
+        blobs,
+    })
+}
+
+// Adds the names of what is below an index, kind by kind.
+fn add_below(
+    catalog: &Catalog<'_>,
+    manifests: &[ManifestMap],
+    below: &Below<'_>,
+    all: &mut Namings,
+) -> Result<(), NoMemory>
+    ensures { OnOk result (all.new ≡ all.old ++ names_of (listed catalog.now) manifests.now below.now) }
+{
+    name_storage(catalog, manifests, all)?;
+    name_cells(catalog, below.cells.as_slice(), all)?;
+    add_revisions(catalog, &below.revisions, below.named.as_slice(), all)?;
+    add_groups(catalog, below.groups.as_slice(), all)?;
+    add_blobs(catalog, below.blobs.as_slice(), all)
+}
+
 /// Names all that an index maps.
 fn names_below(
     alloc: Global,
@@ -166,18 +210,8 @@ fn names_below(
 ) -> Result<(), NoMemory>
     ensures { OnOk result (all.new ≡ all.old ++ names_below (listed catalog.now) (seen_mappings maps.entry)) }
 {
-    let revisions = Revisions::new(alloc, maps.revisions.as_slice())?;
-    let cells = cells_of(alloc, maps.cells.as_slice())?;
-    let currents = currents_of(alloc, catalog, cells.as_slice())?;
-    let named = name_revisions(alloc, catalog, &revisions, currents.as_slice())?;
-    let groups = name_groups(alloc, catalog, &revisions, named.as_slice())?;
-    let blobs = name_blobs(alloc, catalog, groups.as_slice())?;
-    name_storage(catalog, maps.manifests.as_slice(), all)?;
-    name_cells(catalog, cells.as_slice(), all)?;
-    add_revisions(catalog, &revisions, named.as_slice(), all)?;
-    add_groups(catalog, groups.as_slice(), all)?;
-    add_blobs(catalog, blobs.as_slice(), all)?;
-    Ok(())
+    let below = gathered(alloc, catalog, maps)?;
+    add_below(catalog, maps.manifests.as_slice(), &below, all)
 }
 
 /// All that is named from an index.
