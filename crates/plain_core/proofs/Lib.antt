@@ -5,6 +5,7 @@ pub mod Growing
 pub mod SentSerials
 pub mod ChainSteps
 pub mod KeyedCells
+pub mod CoveredSerials
 pub mod FiledOnce
 pub mod FiledAnswers
 pub mod BlobsFound

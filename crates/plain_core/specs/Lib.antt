@@ -10,3 +10,4 @@ pub mod Refusing
 pub mod Reaching
 pub mod Naming
 pub mod Keys
+pub mod Knowing

@@ -7,6 +7,7 @@
 //! - `content`: why what an index says refuses an upload
 //! - `file`: the file at an index
 //! - `keys`: ids as keys of a map
+//! - `known`: which serials a client knows
 //! - `links`: the revisions, groups and blobs that an index names, each once
 //! - `naming`: what an index names
 //! - `once`: a list of ids, each of them once
@@ -33,6 +34,7 @@ mod checking;
 mod content;
 mod file;
 mod keys;
+mod known;
 mod links;
 mod naming;
 mod once;

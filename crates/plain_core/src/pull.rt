@@ -1,24 +1,16 @@
 // Pulls: what a client lacks, and what it knows then.
-ghost use Rattle.std.specs.Prelude.{◌≡◌, ◌+◌, [], ◌∷◌, ◌++◌, IfOk, map, filter};
+ghost use Rattle.std.specs.Prelude.{◌≡◌, ◌+◌, ◌≤◌, [], ◌∷◌, ◌++◌, IfOk, map, filter, length};
 ghost use Rattle.doc_model.specs.Reached.{names};
-ghost use Rattle.doc_model.specs.Pulls.{knows, ranges_of, stored_index, named_ids, lacking, known_then, pulled};
+ghost use Rattle.doc_model.specs.Pulls.{ranges_of, stored_index, named_ids, lacking, known_then, pulled};
 
 use crate::catalog::Catalog;
+use crate::known::Known;
 use crate::naming::names;
 use compact_values::{Copied, ExGuid, Guid, IdIndex, NoMemory, Seq};
 use doc_model::{
     Commit, Element, Knowledge, Namings, Numbered, NumberedElement, Range, Ranges, Reply,
 };
 use std::alloc::Global;
-
-/// Whether a serial lies in a range of the document.
-fn knows(guid: Guid, ranges: &[Range], serial: u64) -> bool
-    ensures { result ≡ knows guid ranges.now serial }
-{
-    ranges
-        .iter()
-        .any(|r| r.guid.is(guid) && r.from <= serial && serial <= r.to)
-}
 
 /// Rising serials as maximal ranges.
 pub fn ranges_of(alloc: Global, guid: Guid, serials: &[u64]) -> Result<Ranges, NoMemory>
@@ -80,18 +72,18 @@ fn named_ids(alloc: Global, added: &[Element], commits: &[Commit]) -> Result<IdI
 /// The elements that a client lacks.
 fn lacking(
     alloc: Global,
-    guid: Guid,
-    known: &[Range],
+    known: &Known<'_>,
     ids: &IdIndex,
     added: &[Element],
 ) -> Result<Numbered, NoMemory>
-    ensures { IfOk result (λ all. all ≡ lacking guid known.now ids.now added.now) }
+    requires { length added.now ≤ length known.now.flags }
+    ensures { IfOk result (λ all. all ≡ lacking known.now.guid known.now.ranges.now ids.now added.now) }
 {
     let mut all = Seq::new(alloc);
     let mut serial = 0;
     for element in added {
         serial += 1;
-        if ids.contains(element.id) && !knows(guid, known, serial) {
+        if ids.contains(element.id) && !known.knows(serial) {
             let element = element.copied(alloc)?;
             all.push(NumberedElement { serial, element })?;
         }
@@ -102,18 +94,18 @@ fn lacking(
 /// The serials that a client knows then.
 fn known_then(
     alloc: Global,
-    guid: Guid,
-    known: &[Range],
+    known: &Known<'_>,
     ids: &IdIndex,
     added: &[Element],
 ) -> Result<Seq<u64>, NoMemory>
-    ensures { IfOk result (λ all. all ≡ known_then guid known.now ids.now added.now) }
+    requires { length added.now ≤ length known.now.flags }
+    ensures { IfOk result (λ all. all ≡ known_then known.now.guid known.now.ranges.now ids.now added.now) }
 {
     let mut all = Seq::new(alloc);
     let mut serial = 0;
     for element in added {
         serial += 1;
-        if knows(guid, known, serial) || ids.contains(element.id) {
+        if known.knows(serial) || ids.contains(element.id) {
             all.push(serial)?;
         }
     }
@@ -132,8 +124,9 @@ pub fn pull(
 {
     let index = stored_index(commits);
     let ids = named_ids(alloc, added, commits)?;
-    let elements = lacking(alloc, guid, known, &ids, added)?;
-    let serials = known_then(alloc, guid, known, &ids, added)?;
+    let known = Known::new(alloc, guid, known, added.len())?;
+    let elements = lacking(alloc, &known, &ids, added)?;
+    let serials = known_then(alloc, &known, &ids, added)?;
     let ranges = ranges_of(alloc, guid, serials.as_slice())?;
     Ok(Reply::Pulled {
         guid,

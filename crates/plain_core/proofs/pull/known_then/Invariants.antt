@@ -5,4 +5,4 @@ use Rattle.plain_core.proofs.pull.known_then.Given as goal
 
 -- what is there, and what is still to be done
 abbrev pub invariant-loop-element : goal.invariant-loop-element
-invariant-loop-element l = (l.serial ≡ l.element-index) × (l.all ++ map (λ e. e.serial) (filter (is_known_then l.guid l.known l.ids) (numbered_from (l.serial + 1) (drop l.element-index l.added))) ≡ known_then l.guid l.known l.ids l.added)
+invariant-loop-element l = (l.serial ≡ l.element-index) × (l.all ++ map (λ e. e.serial) (filter (is_known_then l.known.guid l.known.ranges.now l.ids) (numbered_from (l.serial + 1) (drop l.element-index l.added))) ≡ known_then l.known.guid l.known.ranges.now l.ids l.added)
