@@ -1,6 +1,5 @@
 -- The steps of going along a chain of bases.
-use Rattle.std.proofs.Common.{◌≡◌, ℕ, zero, suc, ◌-◌, ◌<◌, refl, sym, ◌∙◌, ap, List, [], ◌∷◌, ◌++◌, Bool, true, false, Option, Some, None, option_map, option_and_then, append-nil, append_assoc, arith, sub-one}
-use Rattle.std.specs.Prelude.{is_some}
+use Rattle.std.proofs.Common.{◌≡◌, ℕ, zero, suc, ◌-◌, ◌<◌, refl, sym, ◌∙◌, ap, List, [], ◌∷◌, ◌++◌, Option, Some, None, option_map, option_and_then, append-nil, append_assoc, arith, sub-one}
 use Rattle.compact_values.specs.declared.guid.Guid.{Guid}
 use Rattle.compact_values.specs.declared.ids.ExGuid.{ExGuid}
 use Rattle.compact_values.specs.declared.ids.ExGuid.TheVariants.{Null, Id}
@@ -25,34 +24,11 @@ module _ (added : List Element) (maps : List RevisionMap) where
   chain-one zero g v p = absurd (omega arith)
   chain-one (suc n) g v p = rw sub-one
 
-  -- whether a chain ends: at null, not where a manifest isn't there, else where it ends from its base on
-  abbrev pub ends : ℕ → ExGuid → Bool
-  ends n r = is_some (chain added maps n r)
-
-  pub ends-null : (n : ℕ) (r : ExGuid) (total : Bool) → r ≡ Null → ends n r ≡ total → true ≡ total
-  ends-null n r total e h = sym (ap (λ x. ends n x) e ∙ ap (λ o. is_some o) (chain-null n)) ∙ h
-
-  pub ends-over : (n : ℕ) (r : ExGuid) (g : Guid) (v : ℕ) (total : Bool) → n ≡ 0 → r ≡ Id g v → ends n r ≡ total → false ≡ total
-  ends-over n r g v total z e h = sym (ap (λ k. ends k r) z ∙ ap (λ x. ends 0 x) e ∙ ap (λ o. is_some o) (chain-zero g v)) ∙ h
-
   at-manifest : (n : ℕ) (r : ExGuid) (g : Guid) (v : ℕ) (o : Option Manifest) → 0 < n → r ≡ Id g v → o ≡ manifest_of added maps r
       → chain added maps n r ≡ option_and_then (λ m. option_map (λ rest. m ∷ rest) (chain added maps (n - 1) m.base)) o
   at-manifest n r g v o p e m =
       ap (chain added maps n) e ∙ chain-one n g v p
       ∙ ap (option_and_then (λ x. option_map (λ rest. x ∷ rest) (chain added maps (n - 1) x.base))) (ap (manifest_of added maps) (sym e) ∙ sym m)
-
-  pub ends-none : (n : ℕ) (r : ExGuid) (g : Guid) (v : ℕ) (total : Bool) → 0 < n → r ≡ Id g v → None ≡ manifest_of added maps r
-      → ends n r ≡ total → false ≡ total
-  ends-none n r g v total p e m h = sym (ap (λ o. is_some o) (at-manifest n r g v None p e m)) ∙ h
-
-  is-some-map : {X Y : Type 0} (f : X → Y) (o : Option X) → is_some (option_map f o) ≡ is_some o
-  is-some-map f None = refl
-  is-some-map f (Some x) = refl
-
-  pub ends-step : (n : ℕ) (m : Manifest) (r : ExGuid) (g : Guid) (v : ℕ) (total : Bool) → 0 < n → r ≡ Id g v → Some m ≡ manifest_of added maps r
-      → ends n r ≡ total → ends (n - 1) m.base ≡ total
-  ends-step n m r g v total p e k h =
-      sym (is-some-map (λ rest. m ∷ rest) (chain added maps (n - 1) m.base)) ∙ sym (ap (λ o. is_some o) (at-manifest n r g v (Some m) p e k)) ∙ h
 
   -- what comes of a chain after these manifests
   abbrev pub after : List Manifest → ℕ → ExGuid → Option (List Manifest)

@@ -4,6 +4,7 @@ pub mod FoundPlaces
 pub mod Growing
 pub mod SentSerials
 pub mod ChainSteps
+pub mod ChainLengths
 pub mod KeyedCells
 pub mod CoveredSerials
 pub mod FiledOnce

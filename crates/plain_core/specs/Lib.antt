@@ -11,3 +11,4 @@ pub mod Reaching
 pub mod Naming
 pub mod Keys
 pub mod Knowing
+pub mod Chaining
