@@ -8,6 +8,8 @@ mod editor_tests;
 #[cfg(test)]
 mod history_tests;
 #[cfg(test)]
+mod link_tests;
+#[cfg(test)]
 mod lock_tests;
 #[cfg(test)]
 mod plan_tests;

@@ -97,14 +97,14 @@ pub fn without_group(alloc: Global) -> Result<Sub, Fault> {
 }
 
 /// A list of one item.
-fn only<T: Drop>(alloc: Global, item: T) -> Result<Seq<T>, Fault> {
+pub fn only<T: Drop>(alloc: Global, item: T) -> Result<Seq<T>, Fault> {
     let mut items = Seq::new(alloc);
     items.push(item)?;
     Ok(items)
 }
 
 /// The cell that a storage index maps first.
-fn cell_of(element: &Element) -> Option<CellId> {
+pub fn cell_of(element: &Element) -> Option<CellId> {
     match &element.body {
         Body::Index { cells, .. } => match cells.as_slice().first() {
             Some(map) => Some(map.cell),
@@ -114,7 +114,8 @@ fn cell_of(element: &Element) -> Option<CellId> {
     }
 }
 
-fn revision_map(revision: ExGuid, target: ExGuid) -> RevisionMap {
+/// That this revision's manifest is that element.
+pub fn revision_map(revision: ExGuid, target: ExGuid) -> RevisionMap {
     RevisionMap {
         revision,
         target,

@@ -6,7 +6,7 @@ use crate::test_files::{
 };
 use crate::test_table::{Table, play};
 use compact_values::{ExGuid, Guid};
-use doc_model::{Code, Reply};
+use doc_model::{Code, Range, Reply};
 use std::test::Fail;
 
 /// Whose numbers the elements of another file have.
@@ -93,5 +93,49 @@ fn clients_get_what_they_lack(rt: HostRuntime) -> Result<(), Fail> {
     table.moves(30, restore(1, None), Ok(Reply::Done));
     let come = pulled(alloc, own(1), all, &[3, 9], &[range(2, 9)]);
     table.stays(31, pull(alloc, &reached), come);
+    play(&rt, table)
+}
+
+#[test]
+fn clients_know_what_lies_in_a_range(rt: HostRuntime) -> Result<(), Fail> {
+    let alloc = rt.alloc();
+    let all = nine(alloc)?;
+    let all = all.as_slice();
+    let foreign = Range {
+        guid: CLIENT,
+        from: 1,
+        to: 8,
+    };
+    let reached = [range(2, 2), range(4, 8)];
+    let front = [range(1, 2), range(4, 8)];
+    // what is known, what is sent of 2 and 4 to 8, which are reached, and what is known then
+    let rows: [(&[Range], &[usize], &[Range]); 12] = [
+        (&[range(2, 4), range(3, 5)], &[6, 7, 8], &[range(2, 8)]),
+        (&[range(4, 5), range(2, 3)], &[6, 7, 8], &[range(2, 8)]),
+        (&[range(2, 8), range(3, 4)], &[], &[range(2, 8)]),
+        (&[range(3, 4), range(3, 6)], &[2, 7, 8], &[range(2, 8)]),
+        (&[range(3, 6), range(3, 4)], &[2, 7, 8], &[range(2, 8)]),
+        (&[range(0, 2)], &[4, 5, 6, 7, 8], &front),
+        (&[range(0, 0)], &[2, 4, 5, 6, 7, 8], &reached),
+        (&[range(5, 3)], &[2, 4, 5, 6, 7, 8], &reached),
+        (
+            &[range(7, 18_446_744_073_709_551_615)],
+            &[2, 4, 5, 6],
+            &reached,
+        ),
+        (&[range(8, 8)], &[2, 4, 5, 6, 7], &reached),
+        (&[range(9, 20)], &[2, 4, 5, 6, 7, 8], &reached),
+        (&[foreign, range(1, 1)], &[2, 4, 5, 6, 7, 8], &front),
+    ];
+    let mut table = Table::new(alloc);
+    let save = save(alloc, SMALL, CLIENT, ExGuid::Null);
+    table.moves(10, save, stored(alloc, &[range(1, 5)]));
+    table.moves(20, next_save(alloc), stored(alloc, &[range(1, 8)]));
+    let mut moment = 20;
+    for (known, sent, then) in &rows {
+        moment += 1;
+        let come = pulled(alloc, id(11), all, *sent, *then);
+        table.stays(moment, pull(alloc, *known), come);
+    }
     play(&rt, table)
 }
