@@ -1,5 +1,5 @@
 -- What is read is few subrequests, and calls that may be made.
-use Rattle.std.proofs.Common.{◌≡◌, ℕ, ◌+◌, ◌≤◌, ◌<◌, Bool, true, false, cond, ltb, List, [], ◌∷◌, length, Option, Some, None, Result, Ok, Err, refl, sym, ap, subst, ◌∙◌, arith}
+use Rattle.std.proofs.Common.{◌≡◌, ℕ, ◌+◌, ◌≤◌, ◌<◌, ◌^◌, Bool, true, false, cond, ltb, List, [], ◌∷◌, length, Option, Some, None, Result, Ok, Err, refl, subst, arith}
 use Rattle.std.specs.Prelude.{IfSome, codes}
 use Rattle.std.specs.List.{AllByRecursion}
 use Rattle.std.specs.Str.{bytes_eq}
@@ -7,7 +7,8 @@ use Rattle.std.proofs.lemmas.Bool.{ltb-false}
 use Rattle.std.proofs.lemmas.Bool.Decides.{nat_tests}
 use Rattle.doc_model.specs.LockSteps.{timeout_of}
 use Rattle.doc_model.specs.Editing.{editor_timeout_of}
-use Rattle.doc_model.specs.Sound.{IsValidTimeout}
+use Rattle.doc_model.specs.Sound.{IsValidTimeout, Valid}
+use Rattle.doc_model.specs.declared.call.Call.{Call}
 use Rattle.doc_model.specs.declared.editor.EditorStep.{EditorStep}
 use Rattle.doc_model.specs.declared.lock.LockStep.{LockStep}
 use Rattle.envelope_grammar.specs.Front.{text_at}
@@ -15,7 +16,7 @@ use Rattle.envelope_grammar.specs.Reading.{◌>>=◌}
 use Rattle.envelope_grammar.specs.declared.raw.RawRequest.{RawRequest}
 use Rattle.envelope_grammar.specs.declared.raw.RawSub.{RawSub}
 use Rattle.envelope_grammar.specs.declared.tag.Attribute.{Attribute}
-use Rattle.envelope_read.specs.Asked.{asked_or_bad, cell_with, cell_asked, lock_or_bad, editor_or_bad, editor_asked, restore_of, version_asked, exclusive_asked, schema_asked, coauth_asked, table_asked, versions_asked, what_of, sub_with, sub_of, data_attributes, data_text}
+use Rattle.envelope_read.specs.Asked.{asked_or_bad, cell_with, cell_asked, lock_or_bad, editor_or_bad, editor_asked, restore_of, version_asked, exclusive_asked, schema_asked, coauth_asked, table_asked, versions_asked, what_of, sub_of, data_attributes, data_text}
 use Rattle.envelope_read.specs.Base.{decoded}
 use Rattle.envelope_read.specs.Callable.{IsCallable, AreCallable, subs_of}
 use Rattle.envelope_read.specs.Editing.{join_of, leave_of, refresh_of, set_key, remove_key, editor_step}
@@ -26,16 +27,17 @@ use Rattle.envelope_read.specs.declared.collection.Ask.{Ask}
 use Rattle.envelope_read.specs.declared.collection.Collection.{Collection}
 use Rattle.envelope_read.specs.declared.collection.SubAsk.{SubAsk}
 use Rattle.envelope_read.specs.declared.collection.What.{What}
+use Rattle.envelope_read.specs.declared.collection.What.TheVariants as asking
 
-pick : {A : Type 0} (F : A → Type 0) (t : Bool) (x y : Option A) → IfSome x F → IfSome y F → IfSome (cond t x y) F
+pub pick : {A : Type 0} (F : A → Type 0) (t : Bool) (x y : Option A) → IfSome x F → IfSome y F → IfSome (cond t x y) F
 pick F true x y h k = h
 pick F false x y h k = k
 
-binds : {A B : Type 0} (F : B → Type 0) (o : Option A) (f : A → Option B) → ((x : A) → o ≡ Some x → IfSome (f x) F) → IfSome (o >>= f) F
+pub binds : {A B : Type 0} (F : B → Type 0) (o : Option A) (f : A → Option B) → ((x : A) → o ≡ Some x → IfSome (f x) F) → IfSome (o >>= f) F
 binds F None f h = tt
 binds F (Some x) f h = h x refl
 
-if_some : {A : Type 0} (F : A → Type 0) (o : Option A) (x : A) → o ≡ Some x → IfSome o F → F x
+pub if_some : {A : Type 0} (F : A → Type 0) (o : Option A) (x : A) → o ≡ Some x → IfSome o F → F x
 if_some F (Some y) x e h = subst F (let same : y ≡ x = cc in same) h
 if_some F None x e h = absurd cc
 
@@ -239,15 +241,15 @@ sub_callable sub =
 
 -- ---- the loops
 
-ok_parts : {A B : Type 0} (r : Result A ℕ) (f : A → Result B ℕ) (y : B) → then_ok r f ≡ Ok y → (x : A) × (r ≡ Ok x) × (f x ≡ Ok y)
+pub ok_parts : {A B : Type 0} (r : Result A ℕ) (f : A → Result B ℕ) (y : B) → then_ok r f ≡ Ok y → (x : A) × (r ≡ Ok x) × (f x ≡ Ok y)
 ok_parts (Ok x) f y e = (x, refl, e)
 ok_parts (Err n) f y e = absurd cc
 
-or_number_parts : {A : Type 0} (n : ℕ) (o : Option A) (x : A) → or_number n o ≡ Ok x → o ≡ Some x
+pub or_number_parts : {A : Type 0} (n : ℕ) (o : Option A) (x : A) → or_number n o ≡ Ok x → o ≡ Some x
 or_number_parts n (Some y) x e = cc
 or_number_parts n None x e = absurd cc
 
-ok_is : {A : Type 0} (x y : A) → ◌≡◌ {A = Result A ℕ} (Ok x) (Ok y) → x ≡ y
+pub ok_is : {A : Type 0} (x y : A) → ◌≡◌ {A = Result A ℕ} (Ok x) (Ok y) → x ≡ y
 ok_is x y e = cc
 
 record AreRead (subs : List RawSub) (xs : List SubAsk) : Type 0 where
@@ -308,3 +310,6 @@ verdict_few text collection h = (fit_from (text_at text) collection h).few
 pub verdict_callable : (text : List ℕ) (collection : Collection) → verdict text ≡ Ok collection → AreCallable collection
 unfolding verdict
 verdict_callable text collection h = (fit_from (text_at text) collection h).callable
+
+pub valid_callable : (call : Call) → call.moment < 2 ^ 40 → IsCallable (asking.Plain call.sub) → Valid call
+valid_callable call early callable = record { moment = early; sub = callable }

@@ -2,3 +2,5 @@ pub mod Digits
 pub mod Lookups
 pub mod Turns
 pub mod Callables
+pub mod TextLengths
+pub mod CellLengths

@@ -1,5 +1,5 @@
 -- The loops over Requests and SubRequests, turn by turn.
-use Rattle.std.proofs.Common.{◌≡◌, ℕ, ◌+◌, ◌-◌, ◌<◌, ◌≤◌, Bool, true, false, ltb, List, [], ◌∷◌, ◌++◌, length, get_or, drop, Option, Some, None, Result, Ok, Err, refl, sym, ap, ◌∙◌, append_assoc, arith}
+use Rattle.std.proofs.Common.{◌≡◌, ℕ, ◌+◌, ◌-◌, ◌<◌, ◌≤◌, true, false, ltb, List, [], ◌∷◌, ◌++◌, length, get_or, drop, Option, Some, None, Result, Ok, Err, refl, sym, ap, ◌∙◌, append_assoc, arith}
 use Rattle.std.proofs.lemmas.Bool.{lt-ltb, le-ltb}
 use Rattle.std.proofs.lemmas.Bool.Decides.{nat_tests}
 use Rattle.std.proofs.lemmas.List.{drop_more, drop_all, append-nil}
@@ -13,7 +13,7 @@ use Rattle.envelope_read.specs.Depending.{depend_of}
 use Rattle.envelope_read.specs.Lookup.{bytes_of, text_of}
 use Rattle.envelope_read.specs.declared.collection.Depend.{Depend}
 use Rattle.envelope_read.specs.declared.collection.What.{What}
-use Rattle.envelope_read.specs.Verdicts.{most_subs, sub_count, then_ok, or_number, subs_from, ask_with, asks_from, verdict_by, verdict}
+use Rattle.envelope_read.specs.Verdicts.{most_subs, sub_count, then_ok, subs_from, ask_with, asks_from, verdict_by, verdict}
 use Rattle.envelope_read.specs.declared.collection.Ask.{Ask}
 use Rattle.envelope_read.specs.declared.collection.SubAsk.{SubAsk}
 

@@ -1,10 +1,8 @@
 -- What a SubRequest asks, by its Type. Nothing where its text is to be base64 and is none.
-use Rattle.std.specs.Prelude.{ℕ, Bool, List, [], codes, encode_utf8_all, if◌then◌else◌}
+use Rattle.std.specs.Prelude.{ℕ, List, [], codes, encode_utf8_all, if◌then◌else◌}
 use Rattle.std.specs.declared.option.Option.{Option}
 use Rattle.std.specs.declared.option.Option.TheVariants.{Some, None}
 use Rattle.std.specs.Str.{bytes_eq}
-use Rattle.compact_values.specs.declared.guid.Guid.{Guid}
-use Rattle.doc_model.specs.declared.call.Sub.{Sub}
 use Rattle.doc_model.specs.declared.call.Sub.TheVariants as subs
 use Rattle.doc_model.specs.declared.editor.EditorStep.{EditorStep}
 use Rattle.doc_model.specs.declared.lock.LockStep.{LockStep}

@@ -1,5 +1,5 @@
--- Envelopes whose calls may be made, and how many subrequests one has.
-use Rattle.std.specs.Prelude.{ℕ, ◌+◌, List, [], ◌∷◌, length}
+-- Envelopes whose calls may be made, how many subrequests one has, and how large its Cells are.
+use Rattle.std.specs.Prelude.{ℕ, ◌+◌, ◌≤◌, List, [], ◌∷◌, length}
 use Rattle.std.specs.List.{AllByRecursion}
 use Rattle.doc_model.specs.Sound.{IsValidSub}
 use Rattle.envelope_read.specs.declared.collection.Ask.{Ask}
@@ -14,6 +14,14 @@ IsCallable what = Unit {0}
 
 abbrev pub AreCallable : Collection → Type 0
 AreCallable collection = AllByRecursion (λ ask. AllByRecursion (λ sub. IsCallable sub.what) ask.subs) collection.requests
+
+-- a Cell has at most so many bytes
+abbrev pub IsCellWithin : ℕ → What → Type 0
+IsCellWithin most (asking.Cell bytes content carried) = length bytes ≤ most
+IsCellWithin most what = Unit {0}
+
+abbrev pub AreCellsWithin : ℕ → Collection → Type 0
+AreCellsWithin most collection = AllByRecursion (λ ask. AllByRecursion (λ sub. IsCellWithin most sub.what) ask.subs) collection.requests
 
 abbrev pub subs_of : List Ask → ℕ
 subs_of [] = 0

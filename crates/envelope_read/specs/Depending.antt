@@ -1,5 +1,5 @@
 -- On which subrequest one depends.
-use Rattle.std.specs.Prelude.{ℕ, List, [], ◌∷◌, codes, encode_utf8_all, if◌then◌else◌}
+use Rattle.std.specs.Prelude.{ℕ, List, [], ◌∷◌, codes, if◌then◌else◌}
 use Rattle.std.specs.declared.option.Option.{Option}
 use Rattle.std.specs.declared.option.Option.TheVariants.{Some, None}
 use Rattle.std.specs.Str.{bytes_eq}
@@ -8,7 +8,7 @@ use Rattle.envelope_read.specs.declared.collection.Depend.{Depend}
 use Rattle.envelope_read.specs.declared.collection.Depend.TheVariants.{Free, On, Bad}
 use Rattle.envelope_read.specs.declared.collection.DependWord.{DependWord}
 use Rattle.envelope_read.specs.declared.collection.DependWord.TheVariants as words
-use Rattle.envelope_read.specs.Lookup.{value_of, bytes_of, text_of}
+use Rattle.envelope_read.specs.Lookup.{bytes_of, text_of}
 
 unfoldable pub depend_word : List ℕ → Option DependWord
 depend_word word =

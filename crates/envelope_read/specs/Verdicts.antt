@@ -1,5 +1,5 @@
 -- What the text of an envelope asks for, or the HTTP status that refuses it.
-use Rattle.std.specs.Prelude.{◌≡◌, ◌≤◌, ℕ, ◌+◌, List, [], ◌∷◌, Result, Ok, Err, length, nat_lt, Bool, true, false, codes, if◌then◌else◌}
+use Rattle.std.specs.Prelude.{◌≡◌, ◌≤◌, ℕ, ◌+◌, List, [], ◌∷◌, Result, Ok, Err, length, nat_lt, true, false, codes, if◌then◌else◌}
 use Rattle.std.specs.declared.option.Option.{Option}
 use Rattle.std.specs.declared.option.Option.TheVariants.{Some, None}
 use Rattle.envelope_grammar.specs.Front.{text_at}

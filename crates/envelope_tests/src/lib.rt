@@ -4,6 +4,20 @@
 #![tactic(auto)]
 
 #[cfg(test)]
-mod asking_tests;
+mod attribute_tests;
 #[cfg(test)]
 mod grammar_tests;
+#[cfg(test)]
+mod large_tests;
+#[cfg(test)]
+mod refusal_tests;
+#[cfg(test)]
+mod request_tests;
+#[cfg(test)]
+mod row_tests;
+#[cfg(test)]
+mod spelling_tests;
+#[cfg(test)]
+mod test_envelopes;
+#[cfg(test)]
+mod word_tests;

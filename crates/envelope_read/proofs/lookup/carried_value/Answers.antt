@@ -1,5 +1,3 @@
-use Rattle.std.proofs.Common.{sym, subst, List, ℕ, Option}
-use Rattle.envelope_grammar.specs.Answers.{Finds}
 use Rattle.envelope_read.proofs.Lookups.{first_none}
 use Rattle.envelope_read.proofs.lookup.carried_value.Goals as goal
 
