@@ -6,6 +6,7 @@
 //! - `checking`: whether the elements of an upload may be added
 //! - `content`: why what an index says refuses an upload
 //! - `file`: the file at an index
+//! - `file_objects`: the objects that it is made of
 //! - `keys`: ids as keys of a map
 //! - `known`: which serials a client knows
 //! - `links`: the revisions, groups and blobs that an index names, each once
@@ -21,6 +22,7 @@
 //! - `put`: what an upload meets, and the first reasons to refuse it
 //! - `reaching`: what is reached from an index, and whether it is too much
 //! - `revisions`: the mappings of revisions, found by their revisions
+//! - `root_chain`: the revisions of the root cell
 //! - `sayings`: what elements say, borrowed
 //! - `serials`: the serial numbers of what was sent
 //! - `uploads`: the uploads that aren't complete
@@ -33,6 +35,7 @@ mod chains;
 mod checking;
 mod content;
 mod file;
+mod file_objects;
 mod keys;
 mod known;
 mod links;
@@ -48,6 +51,7 @@ mod pull;
 mod put;
 mod reaching;
 mod revisions;
+mod root_chain;
 mod sayings;
 mod serials;
 mod uploads;

@@ -2,7 +2,7 @@ use Rattle.std.proofs.Common.{◌≡◌, drop, map, flat_map}
 use Rattle.doc_model.proofs.Once.{joining}
 use Rattle.plain_core.specs.Filing.{groups_named}
 use Rattle.plain_core.specs.Sayings.{seen_manifest}
-use Rattle.plain_core.proofs.file.groups_named.Given as goal
+use Rattle.plain_core.proofs.file_objects.groups_named.Given as goal
 
 -- what is there, and what is still to come
 abbrev pub invariant-loop-manifest : goal.invariant-loop-manifest

@@ -2,7 +2,7 @@ use Rattle.std.proofs.Common.{◌≡◌, ◌++◌, map, option_map}
 use Rattle.doc_model.specs.Reached.{chain, longest}
 use Rattle.plain_core.specs.Cataloging.{listed}
 use Rattle.plain_core.specs.Sayings.{seen_manifest}
-use Rattle.plain_core.proofs.file.chain.Given as goal
+use Rattle.plain_core.proofs.root_chain.chain.Given as goal
 
 -- what is there, and what comes from here on
 abbrev pub invariant-loop-left : goal.invariant-loop-left

@@ -7,7 +7,7 @@ use Rattle.doc_model.specs.Files.{current_revision}
 use Rattle.doc_model.specs.Finding.{Mappings, first, said, as_cell, as_storage}
 use Rattle.plain_core.specs.Cataloging.{listed}
 use Rattle.plain_core.specs.Sayings.{seen_mappings}
-use Rattle.plain_core.proofs.file.current_revision.Goals as goal
+use Rattle.plain_core.proofs.root_chain.current_revision.Goals as goal
 
 first-got : {X : Type 0} (xs : List X) → slice_get xs 0 ≡ first xs
 first-got [] = refl

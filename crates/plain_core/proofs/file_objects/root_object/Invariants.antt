@@ -1,7 +1,7 @@
 use Rattle.std.proofs.Common.{◌≡◌, drop, map}
 use Rattle.doc_model.specs.Files.{root_object}
 use Rattle.plain_core.specs.Sayings.{seen_manifest}
-use Rattle.plain_core.proofs.file.root_object.Given as goal
+use Rattle.plain_core.proofs.file_objects.root_object.Given as goal
 
 -- those before have no root
 abbrev pub invariant-loop-manifest : goal.invariant-loop-manifest

@@ -3,7 +3,7 @@ use Rattle.std.proofs.lemmas.List.{map-append}
 use Rattle.plain_core.specs.Cataloging.{listed}
 use Rattle.plain_core.specs.Sayings.{seen_manifest}
 use Rattle.plain_core.proofs.ChainSteps.{chain-done, chain-over, chain-none, chain-step}
-use Rattle.plain_core.proofs.file.chain.Goals as goal
+use Rattle.plain_core.proofs.root_chain.chain.Goals as goal
 
 -- the chain ends
 pub returns-in-Null : goal.returns-in-Null
