@@ -9,6 +9,7 @@ pub mod KeyedCells
 pub mod CoveredSerials
 pub mod FiledOnce
 pub mod FiledAnswers
+pub mod FileLengths
 pub mod BlobsFound
 pub mod FewObjects
 pub mod Wholes

@@ -6,6 +6,7 @@ pub mod Weighing
 pub mod Sending
 pub mod Uploading
 pub mod Filing
+pub mod Measuring
 pub mod Refusing
 pub mod Reaching
 pub mod Naming

@@ -16,6 +16,10 @@ entry_reasons locked invalid full = (locked, codes.AlreadyLocked) ∷ (invalid, 
 abbrev pub version_reasons : List Commit → Put → List (Bool × Code)
 version_reasons commits p = (not (is_expected commits p), codes.Coherency) ∷ (is_committed commits p.index, codes.InvalidObject) ∷ []
 
+-- those of a file whose index names only what is there, in chains that end
+abbrev pub file_reasons : List Element → ExGuid → List (Bool × Code)
+file_reasons added index = (is_none (file added index), codes.Unserializable) ∷ (too_large added index, codes.StorageLimit) ∷ []
+
 abbrev pub content_reasons : List Element → ExGuid → List (Bool × Code)
 content_reasons added index =
     (is_some (absent added index), codes.NotFound)

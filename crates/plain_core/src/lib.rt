@@ -6,6 +6,7 @@
 //! - `checking`: whether the elements of an upload may be added
 //! - `content`: why what an index says refuses an upload
 //! - `file`: the file at an index
+//! - `file_length`: how long it is
 //! - `file_objects`: the objects that it is made of
 //! - `keys`: ids as keys of a map
 //! - `known`: which serials a client knows
@@ -35,6 +36,7 @@ mod chains;
 mod checking;
 mod content;
 mod file;
+mod file_length;
 mod file_objects;
 mod keys;
 mod known;
