@@ -108,34 +108,33 @@ fn clients_know_what_lies_in_a_range(rt: HostRuntime) -> Result<(), Fail> {
     };
     let reached = [range(2, 2), range(4, 8)];
     let front = [range(1, 2), range(4, 8)];
-    // what is known, what is sent of 2 and 4 to 8, which are reached, and what is known then
-    let rows: [(&[Range], &[usize], &[Range]); 12] = [
-        (&[range(2, 4), range(3, 5)], &[6, 7, 8], &[range(2, 8)]),
-        (&[range(4, 5), range(2, 3)], &[6, 7, 8], &[range(2, 8)]),
-        (&[range(2, 8), range(3, 4)], &[], &[range(2, 8)]),
-        (&[range(3, 4), range(3, 6)], &[2, 7, 8], &[range(2, 8)]),
-        (&[range(3, 6), range(3, 4)], &[2, 7, 8], &[range(2, 8)]),
-        (&[range(0, 2)], &[4, 5, 6, 7, 8], &front),
-        (&[range(0, 0)], &[2, 4, 5, 6, 7, 8], &reached),
-        (&[range(5, 3)], &[2, 4, 5, 6, 7, 8], &reached),
+    // a moment, what is known, what is sent of 2 and 4 to 8, which are reached, and what is known then
+    let rows: [(u32, &[Range], &[usize], &[Range]); 12] = [
+        (21, &[range(2, 4), range(3, 5)], &[6, 7, 8], &[range(2, 8)]),
+        (22, &[range(4, 5), range(2, 3)], &[6, 7, 8], &[range(2, 8)]),
+        (23, &[range(2, 8), range(3, 4)], &[], &[range(2, 8)]),
+        (24, &[range(3, 4), range(3, 6)], &[2, 7, 8], &[range(2, 8)]),
+        (25, &[range(3, 6), range(3, 4)], &[2, 7, 8], &[range(2, 8)]),
+        (26, &[range(0, 2)], &[4, 5, 6, 7, 8], &front),
+        (27, &[range(0, 0)], &[2, 4, 5, 6, 7, 8], &reached),
+        (28, &[range(5, 3)], &[2, 4, 5, 6, 7, 8], &reached),
         (
+            29,
             &[range(7, 18_446_744_073_709_551_615)],
             &[2, 4, 5, 6],
             &reached,
         ),
-        (&[range(8, 8)], &[2, 4, 5, 6, 7], &reached),
-        (&[range(9, 20)], &[2, 4, 5, 6, 7, 8], &reached),
-        (&[foreign, range(1, 1)], &[2, 4, 5, 6, 7, 8], &front),
+        (30, &[range(8, 8)], &[2, 4, 5, 6, 7], &reached),
+        (31, &[range(9, 20)], &[2, 4, 5, 6, 7, 8], &reached),
+        (32, &[foreign, range(1, 1)], &[2, 4, 5, 6, 7, 8], &front),
     ];
     let mut table = Table::new(alloc);
     let save = save(alloc, SMALL, CLIENT, ExGuid::Null);
     table.moves(10, save, stored(alloc, &[range(1, 5)]));
     table.moves(20, next_save(alloc), stored(alloc, &[range(1, 8)]));
-    let mut moment = 20;
-    for (known, sent, then) in &rows {
-        moment += 1;
+    for (moment, known, sent, then) in &rows {
         let come = pulled(alloc, id(11), all, *sent, *then);
-        table.stays(moment, pull(alloc, *known), come);
+        table.stays(*moment, pull(alloc, *known), come);
     }
     play(&rt, table)
 }
