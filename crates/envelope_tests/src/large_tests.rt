@@ -1,5 +1,5 @@
-// Envelopes as large as a body may be, of 24 MiB, end in time linear in their length. These tests are also the measure of
-// docs/PERFORMANCE.md.
+// Envelopes as large as a body may be, of 24 MiB, are read or refused within the time that a test has, which a reader that
+// goes back over what it has read would not keep. These tests are also the measure of docs/PERFORMANCE.md.
 use crate::test_envelopes::{BACK, FRONT};
 use base64::engine::general_purpose::STANDARD;
 use compact_values::{NoMemory, Octets};
