@@ -112,6 +112,9 @@ fn a_refreshed_lock_is_live_for_longer(rt: HostRuntime) -> Result<(), Fail> {
         lock(LockStep::CheckExclusive { id: M }),
         Ok(Reply::Done),
     );
+    // The moments go back, and the lock is live again.
+    let drop = lock(LockStep::DropExclusive { id: M });
+    table.stays(1058, drop, refused(Code::AlreadyLocked));
     table.moves(1059, first_save(alloc, None), stored(alloc, &[range(1, 5)]));
     play(&rt, table)
 }
@@ -177,5 +180,11 @@ fn sixty_four_clients_share_a_lock(rt: HostRuntime) -> Result<(), Fail> {
     );
     // the place of A, which is there until 100
     table.moves(100, join(S, B, 60), schema(Coauthors::Several));
+    // What had expired left the lock with its change, and isn't there again at a moment before.
+    let gone = LockStep::DropShared {
+        schema: S,
+        client: A,
+    };
+    table.stays(99, lock(gone), refused(Code::NotLocked));
     play(&rt, table)
 }

@@ -5,6 +5,7 @@ use compact_values::{Guid, NoMemory, Octets, Seq, Text};
 use doc_model::{Code, Editor, EditorStep, Editors, Entry, Reply};
 use editors_table::*;
 use std::alloc::Global;
+use std::process::Abort;
 use std::test::Fail;
 
 /// Three clients.
@@ -37,16 +38,57 @@ fn taken(
     }
 }
 
-fn refused(code: Code) -> Reply {
-    Reply::Refused { code }
+/// What is asked of the table.
+#[derive(Clone, Copy)]
+enum Ask {
+    /// A client comes, for 3,600 seconds.
+    Join(Guid),
+    /// A client stays, for 60 seconds.
+    Refresh(Guid),
+    Leave(Guid),
+    /// E sets this key to this value.
+    Set(&'static str, &'static [u8]),
+    /// E removes this key.
+    Remove(&'static str),
 }
 
-fn join(client: Guid) -> EditorStep
-    ensures { IfSome (editor_timeout_of result) (λ t. t < 2 ^ 16) }
+fn step_of(alloc: Global, ask: Ask) -> Result<EditorStep, NoMemory>
+    ensures { IfOk result (λ s. IfSome (editor_timeout_of s) (λ t. t < 2 ^ 16)) }
 {
-    EditorStep::Join {
-        client,
-        timeout: 3600,
+    match ask {
+        Ask::Join(client) => Ok(EditorStep::Join {
+            client,
+            timeout: 3600,
+        }),
+        Ask::Refresh(client) => Ok(EditorStep::Refresh {
+            client,
+            timeout: 60,
+        }),
+        Ask::Leave(client) => Ok(EditorStep::Leave { client }),
+        Ask::Set(key, value) => set(alloc, key, value),
+        Ask::Remove(key) => remove(alloc, key),
+    }
+}
+
+/// A moment, a user, what that user asks, and why it is refused.
+type Row = (u32, &'static str, Ask, Option<Code>);
+
+/// The table after these steps, each of which is answered as its row says.
+fn play(rt: &impl Abort, alloc: Global, table: Editors, rows: &[Row]) -> Result<Editors, Fail> {
+    let mut table = table;
+    for (moment, user, ask, code) in rows {
+        let asked = step_of(alloc, *ask)?;
+        let (next, reply) = taken(alloc, table, u64::from(*moment), user, asked)?;
+        assert!(rt; reply == answer(*code), "at {moment}");
+        table = next;
+    }
+    Ok(table)
+}
+
+fn answer(code: Option<Code>) -> Reply {
+    match code {
+        Some(code) => Reply::Refused { code },
+        None => Reply::Done,
     }
 }
 
@@ -140,29 +182,30 @@ fn full(alloc: Global) -> Result<Editors, NoMemory> {
 #[test]
 fn editors_come_and_expire(rt: HostRuntime) -> Result<(), Fail> {
     let alloc = rt.alloc();
-    let (table, answer) = taken(alloc, Seq::new(alloc), 0, "eve", join(E))?;
-    assert!(rt; answer == Reply::Done);
-    assert!(rt; is_alone(&table, 0));
-    let (table, _) = taken(alloc, table, 0, "eve", set(alloc, "k0", b"a")?)?;
-    let (table, answer) = taken(alloc, table, 10, "fay", join(F))?;
-    assert!(rt; answer == Reply::Done);
-    assert!(rt; !is_alone(&table, 10));
-    assert!(rt; !is_alone(&table, 3599));
+    let come: [Row; 3] = [
+        (0, "eve", Ask::Join(E), None),
+        (0, "eve", Ask::Set("k0", b"a"), None),
+        (10, "fay", Ask::Join(F), None),
+    ];
+    let table = play(&rt, alloc, Seq::new(alloc), &come)?;
+    let alone = [10, 3599, 3600].map(|moment| is_alone(&table, moment));
+    assert_eq!(rt; alone, [false, false, true]);
     // E isn't there at its end, and has lost its keys when it comes again.
-    assert!(rt; is_alone(&table, 3600));
-    let (table, answer) = taken(alloc, table, 3600, "eve", EditorStep::Leave { client: E })?;
-    assert!(rt; answer == refused(Code::EditorUnknown));
-    let (table, answer) = taken(alloc, table, 3600, "eve", join(E))?;
-    assert!(rt; answer == Reply::Done);
+    let again: [Row; 2] = [
+        (3600, "eve", Ask::Leave(E), Some(Code::EditorUnknown)),
+        (3600, "eve", Ask::Join(E), None),
+    ];
+    let table = play(&rt, alloc, table, &again)?;
     let mut wanted = Seq::new(alloc);
     wanted.push(editor(alloc, F, "fay", 3610, &[], "")?)?;
     wanted.push(editor(alloc, E, "eve", 7200, &[], "")?)?;
     assert!(rt; table == wanted);
-    let (table, answer) = taken(alloc, table, 3600, "gus", EditorStep::Leave { client: G })?;
-    assert!(rt; answer == refused(Code::EditorUnknown));
-    let (table, answer) = taken(alloc, table, 3600, "eve", EditorStep::Leave { client: E })?;
-    assert!(rt; answer == Reply::Done);
-    assert!(rt; table.len() == 1);
+    let leave: [Row; 2] = [
+        (3600, "gus", Ask::Leave(G), Some(Code::EditorUnknown)),
+        (3600, "eve", Ask::Leave(E), None),
+    ];
+    let table = play(&rt, alloc, table, &leave)?;
+    assert_eq!(rt; table.len(), 1);
     assert!(rt; is_alone(&table, 3600));
     Ok(())
 }
@@ -170,56 +213,66 @@ fn editors_come_and_expire(rt: HostRuntime) -> Result<(), Fail> {
 #[test]
 fn keys_are_set_and_removed(rt: HostRuntime) -> Result<(), Fail> {
     let alloc = rt.alloc();
-    let (mut table, _) = taken(alloc, Seq::new(alloc), 0, "eve", join(E))?;
-    for key in KEYS {
-        let (next, answer) = taken(alloc, table, 0, "eve", set(alloc, key, b"a")?)?;
-        assert!(rt; answer == Reply::Done);
-        table = next;
-    }
-    let (table, answer) = taken(alloc, table, 0, "eve", set(alloc, "k8", b"a")?)?;
-    assert!(rt; answer == refused(Code::MetadataFull));
-    let (table, answer) = taken(alloc, table, 0, "eve", set(alloc, "k3", b"b")?)?;
-    assert!(rt; answer == Reply::Done);
+    let set: [Row; 12] = [
+        (0, "eve", Ask::Join(E), None),
+        (0, "eve", Ask::Set("k0", b"a"), None),
+        (0, "eve", Ask::Set("k1", b"a"), None),
+        (0, "eve", Ask::Set("k2", b"a"), None),
+        (0, "eve", Ask::Set("k3", b"a"), None),
+        (0, "eve", Ask::Set("k4", b"a"), None),
+        (0, "eve", Ask::Set("k5", b"a"), None),
+        (0, "eve", Ask::Set("k6", b"a"), None),
+        (0, "eve", Ask::Set("k7", b"a"), None),
+        (0, "eve", Ask::Set("k8", b"a"), Some(Code::MetadataFull)),
+        (0, "eve", Ask::Set("k3", b"b"), None),
+        (0, "eve", Ask::Remove("k8"), None),
+    ];
+    let table = play(&rt, alloc, Seq::new(alloc), &set)?;
     assert!(rt; table == table_of_e(alloc, "k3")?);
-    let (table, answer) = taken(alloc, table, 0, "eve", remove(alloc, "k8")?)?;
-    assert!(rt; answer == Reply::Done);
-    assert!(rt; table == table_of_e(alloc, "k3")?);
-    // A refresh by another user.
-    let refresh = EditorStep::Refresh {
-        client: E,
-        timeout: 60,
-    };
-    let (table, answer) = taken(alloc, table, 9, "fay", refresh)?;
-    assert!(rt; answer == Reply::Done);
-    let (table, answer) = taken(alloc, table, 9, "eve", remove(alloc, "k7")?)?;
-    assert!(rt; answer == Reply::Done);
+    // A refresh by another user leaves the name.
+    let removed: [Row; 2] = [
+        (9, "fay", Ask::Refresh(E), None),
+        (9, "eve", Ask::Remove("k7"), None),
+    ];
+    let table = play(&rt, alloc, table, &removed)?;
     let mut wanted = Seq::new(alloc);
-    let keys = ["k0", "k1", "k2", "k3", "k4", "k5", "k6"];
-    wanted.push(editor(alloc, E, "eve", 69, &keys, "k3")?)?;
+    wanted.push(editor(alloc, E, "eve", 69, &KEYS[..7], "k3")?)?;
     assert!(rt; table == wanted);
     Ok(())
 }
 
+/// What E is answered that sets a key of so many pieces to so many zeros.
+fn answer_to_key(
+    alloc: Global,
+    piece: &str,
+    count: usize,
+    length: usize,
+) -> Result<Reply, NoMemory> {
+    let joined = step_of(alloc, Ask::Join(E))?;
+    let (table, _) = taken(alloc, Seq::new(alloc), 0, "eve", joined)?;
+    let asked = EditorStep::SetKey {
+        client: E,
+        key: repeated(alloc, piece, count)?,
+        value: zeros(alloc, length)?,
+    };
+    let (_, reply) = taken(alloc, table, 0, "eve", asked)?;
+    Ok(reply)
+}
+
 #[test]
 fn keys_and_values_have_1024_bytes(rt: HostRuntime) -> Result<(), Fail> {
-    let alloc = rt.alloc();
+    let long = Some(Code::MetadataLong);
     let cases = [
-        ("a", 1025, 0, refused(Code::MetadataLong)),
-        ("a", 1024, 0, Reply::Done),
-        ("é", 512, 0, Reply::Done),
-        ("é", 513, 0, refused(Code::MetadataLong)),
-        ("a", 1, 1024, Reply::Done),
-        ("a", 1, 1025, refused(Code::MetadataLong)),
+        ("a", 1025, 0, long),
+        ("a", 1024, 0, None),
+        ("é", 512, 0, None),
+        ("é", 513, 0, long),
+        ("a", 1, 1024, None),
+        ("a", 1, 1025, long),
     ];
-    for (piece, count, length, wanted) in cases {
-        let (table, _) = taken(alloc, Seq::new(alloc), 0, "eve", join(E))?;
-        let asked = EditorStep::SetKey {
-            client: E,
-            key: repeated(alloc, piece, count)?,
-            value: zeros(alloc, length)?,
-        };
-        let (_, answer) = taken(alloc, table, 0, "eve", asked)?;
-        assert!(rt; answer == wanted, "{count} of {piece}, and {length}");
+    for (piece, count, length, code) in cases {
+        let reply = answer_to_key(rt.alloc(), piece, count, length)?;
+        assert!(rt; reply == answer(code), "{count} of {piece}, and {length}");
     }
     Ok(())
 }
@@ -227,16 +280,16 @@ fn keys_and_values_have_1024_bytes(rt: HostRuntime) -> Result<(), Fail> {
 #[test]
 fn sixty_four_clients_edit(rt: HostRuntime) -> Result<(), Fail> {
     let alloc = rt.alloc();
-    let (table, answer) = taken(alloc, full(alloc)?, 99, "fay", join(F))?;
-    assert!(rt; answer == refused(Code::EditorsFull));
+    let refused: [Row; 1] = [(99, "fay", Ask::Join(F), Some(Code::EditorsFull))];
+    let table = play(&rt, alloc, full(alloc)?, &refused)?;
     assert!(rt; table == full(alloc)?);
     // Its own place, in which it keeps its keys.
-    let (table, answer) = taken(alloc, table, 99, "eva", join(E))?;
-    assert!(rt; answer == Reply::Done);
+    let own: [Row; 1] = [(99, "eva", Ask::Join(E), None)];
+    let table = play(&rt, alloc, table, &own)?;
     let wanted = editor(alloc, E, "eva", 3699, &["k0"], "")?;
     assert!(rt; table.as_slice().last() == Some(&wanted));
-    let (table, answer) = taken(alloc, table, 100, "fay", join(F))?;
-    assert!(rt; answer == Reply::Done);
-    assert!(rt; table.len() == 64);
+    let come: [Row; 1] = [(100, "fay", Ask::Join(F), None)];
+    let table = play(&rt, alloc, table, &come)?;
+    assert_eq!(rt; table.len(), 64);
     Ok(())
 }

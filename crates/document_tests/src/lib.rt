@@ -1,4 +1,4 @@
-//! The tests of a document and its parts: weights, files, locks and editors.
+//! The tests of a document and its parts: weights, files, shared locks and editors.
 //!
 //! They stand apart from the crates that they test, so that their proof isn't another proof of those.
 #![tactic(auto)]
@@ -9,8 +9,6 @@ mod coauthor_tests;
 mod editor_tests;
 #[cfg(test)]
 mod file_tests;
-#[cfg(test)]
-mod lock_tests;
 #[cfg(test)]
 mod node_tests;
 #[cfg(test)]
