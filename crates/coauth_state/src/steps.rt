@@ -9,6 +9,7 @@ use crate::members::{count_others, members, one_member, others, with_client};
 use crate::plan::LockPlan;
 use crate::standing::{Standing, member_standing, shared_standing};
 use compact_values::{Guid, NoMemory};
+use doc_model::limits::MOST_SHARING;
 use doc_model::{Code, LockRecord};
 use std::alloc::Global;
 
@@ -29,7 +30,7 @@ pub fn take_shared(
             Ok(LockPlan::change(lock, LockRecord::Shared { schema, members }))
         }
         Standing::Own => {
-            if count_others(members(&lock), client) < 64 {
+            if count_others(members(&lock), client) < MOST_SHARING {
                 let members = with_client(alloc, members(&lock), client, until, coauthor)?;
                 Ok(LockPlan::change(lock, LockRecord::Shared { schema, members }))
             } else {

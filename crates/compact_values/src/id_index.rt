@@ -11,13 +11,16 @@ use std::alloc::Global;
 use std::collections::BTreeMap;
 use std::marker::Model;
 
+/// What stands for an extended GUID in a map.
+pub type IdKey = Option<(u128, u32)>;
+
 /// A list of extended GUIDs that finds the first place of an id without looking through the list. The ids are those of
 /// clients, who could choose them so that a hash of theirs is the same: so they stand in order and aren't hashed, and no
 /// choice makes a search long.
 #[derive(Drop)]
 pub struct IdIndex {
     ids: Ids,
-    places: BTreeMap<Option<(u128, u32)>, usize>,
+    places: BTreeMap<IdKey, usize>,
 }
 
 impl Model for IdIndex {
@@ -32,8 +35,8 @@ impl Model for IdIndex {
     ghost invariant = { λ s. HasPlaces s.ids s.places };
 }
 
-// An id as a key.
-fn key_of(id: ExGuid) -> Option<(u128, u32)>
+/// An id as a key of a map: its order is that of keys.
+pub fn key_of(id: ExGuid) -> IdKey
     ensures { result ≡ key_of id }
 {
     match id {

@@ -40,7 +40,7 @@ pub use compact::{read_compact, write_compact};
 pub use exguid::{read_exguid, read_guid, write_exguid, write_guid};
 pub use fault::{NoMemory, ValueFault};
 pub use guid::{Guid, guid_bytes, guid_of, guid_of_text, guid_text};
-pub use id_index::IdIndex;
+pub use id_index::{IdIndex, IdKey, key_of};
 pub use ids::{CellId, CellIds, ExGuid, Ids, Serial};
 pub use item::{read_item, write_item};
 pub use numbers::{append_low_bytes, number_of};

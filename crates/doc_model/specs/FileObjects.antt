@@ -34,10 +34,6 @@ file_below objects zero id = None
 file_below objects (suc n) id =
     option_and_then (λ o. if length o.references == 0 then o.bytes else node_file (file_below objects n) o) (find_object objects id)
 
--- the most objects that a path from the root down may have
-abbrev pub most_high : ℕ
-most_high = 8
-
 -- the file of a root, which is empty without references
 abbrev pub root_file : List FileObject → ExGuid → Option (List ℕ)
 root_file objects id =

@@ -4,6 +4,7 @@ use Rattle.std.specs.Prelude.{ℕ, ◌+◌, ◌<◌, ◌≤◌, ◌^◌, length}
 use Rattle.std.specs.List.{sum_by, AllByRecursion}
 use Rattle.compact_values.specs.Ids.{FitsExGuid}
 use Rattle.doc_model.specs.FittingElements.{FitsElement, FitsRange}
+use Rattle.doc_model.specs.Limits.{most_elements, most_objects, most_puts, most_sub_requests}
 use Rattle.doc_model.specs.Requests.{puts_in}
 use Rattle.doc_model.specs.Weights.{objects_written}
 use Rattle.doc_model.specs.WrittenRequests.{IsKindOf}
@@ -44,7 +45,7 @@ request_objects r = 2 + sum_by sub_objects r.subs + sum_by objects_written r.ele
 pub record FitsRequest (r : CellRequest) : Type 0 where
   pub subs : AllByRecursion FitsSub r.subs
   pub elements : AllByRecursion FitsElement r.elements
-  pub few_subs : length r.subs ≤ 64
-  pub few_puts : puts_in r.subs ≤ 4
-  pub few_elements : length r.elements ≤ 8192
-  pub few_objects : request_objects r ≤ 262144
+  pub few_subs : length r.subs ≤ most_sub_requests
+  pub few_puts : puts_in r.subs ≤ most_puts
+  pub few_elements : length r.elements ≤ most_elements
+  pub few_objects : request_objects r ≤ most_objects

@@ -1,6 +1,6 @@
 -- The limits of a document, which stand in src/limits.rt.
 use Rattle.std.specs.Prelude.{ℕ}
-use Rattle.doc_model.specs.declared.limits.TheConstants.{MOST_OBJECTS, MOST_ADDED, MOST_ADDED_WEIGHT, MOST_REACHED_WEIGHT, MOST_FILE, MOST_PARTS, MOST_PARTS_WEIGHT, DAY, MOST_SHARING, MOST_EDITORS, MOST_KEYS, MOST_KEY_BYTES, MOST_ELEMENTS, MOST_BODIES}
+use Rattle.doc_model.specs.declared.limits.TheConstants.{MOST_OBJECTS, MOST_ADDED, MOST_ADDED_WEIGHT, MOST_REACHED_WEIGHT, MOST_FILE, MOST_HIGH, MOST_PARTS, MOST_PARTS_WEIGHT, DAY, MOST_SHARING, MOST_EDITORS, MOST_KEYS, MOST_KEY_BYTES, MOST_ELEMENTS, MOST_SUB_REQUESTS, MOST_PUTS, MOST_REVISIONS, MOST_BODIES}
 
 -- stream objects that are written for one element
 abbrev pub most_objects : ℕ
@@ -20,6 +20,10 @@ most_reached_weight = MOST_REACHED_WEIGHT
 -- bytes of a file
 abbrev pub most_file : ℕ
 most_file = MOST_FILE
+
+-- objects of a path from a root down
+abbrev pub most_high : ℕ
+most_high = MOST_HIGH
 
 -- uploads that aren't complete, and the weight of their elements together
 abbrev pub most_parts : ℕ
@@ -49,6 +53,17 @@ most_key_bytes = MOST_KEY_BYTES
 -- elements of one package
 abbrev pub most_elements : ℕ
 most_elements = MOST_ELEMENTS
+
+-- sub-requests of a binary request, and puts among them
+abbrev pub most_sub_requests : ℕ
+most_sub_requests = MOST_SUB_REQUESTS
+
+abbrev pub most_puts : ℕ
+most_puts = MOST_PUTS
+
+-- revisions of a chain
+abbrev pub most_revisions : ℕ
+most_revisions = MOST_REVISIONS
 
 -- bodies of a journal
 abbrev pub most_bodies : ℕ

@@ -11,6 +11,7 @@ use Rattle.doc_model.specs.declared.element.CellMap.{CellMap}
 use Rattle.doc_model.specs.declared.element.RevisionMap.{RevisionMap}
 use Rattle.doc_model.specs.declared.element.Content.{Content}
 use Rattle.doc_model.specs.declared.element.Content.TheVariants.{Inline, Apart}
+use Rattle.doc_model.specs.Limits.{most_revisions}
 use Rattle.doc_model.specs.Finding.{Mappings, Manifest, as_index, as_storage, as_cell, as_revision, as_group, as_blob, said, firsts}
 
 -- an element that is named, and whether its place finds something there
@@ -43,7 +44,7 @@ named_along added maps (suc n) (Id g v) = Id g v ∷ named_along added maps n (b
 -- the longest chain that is let be, and enough to come along any chain: its revisions that are mapped and differ are no more than the mappings,
 -- one that is not mapped ends it, and from one that was named before on it names nothing new
 abbrev pub longest : ℕ
-longest = 1024
+longest = most_revisions
 
 abbrev pub enough : List RevisionMap → ℕ
 enough maps = longest + length maps + 1

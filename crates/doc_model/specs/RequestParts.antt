@@ -9,6 +9,7 @@ use Rattle.stream_objects.specs.Objects.{HasOne, kind_of, is_kind, start_of, chi
 use Rattle.stream_objects.specs.ObjectFields.{compound_fields}
 use Rattle.doc_model.specs.ElementParts as elements
 use Rattle.doc_model.specs.KnowledgeParts as knowledges
+use Rattle.doc_model.specs.Limits.{most_puts, most_sub_requests}
 use Rattle.doc_model.specs.Requests.{SubRequestFields, PutFields, AllocateFields, first_knowledge}
 
 -- A sub-request has its number among the sub-requests, a put its number among the puts, both from 0.
@@ -30,9 +31,9 @@ pub record HoldsOnce (kind : ℕ) (t : Tree) : Type 0 where
 -- fields of a put behind the fourth are not.
 abbrev pub InOwnForm : List ℕ → Part → Type 0
 InOwnForm input (request t) = (kind_of t ≡ 0x40) × ((out-Tree t).compound ≡ true) × HasOne 0x15 t
-InOwnForm input (sub_request n t) = (n < 64) × ((id : ℕ) × (kind : ℕ) × SubRequestFields input t id kind × HoldsOnce kind t)
+InOwnForm input (sub_request n t) = (n < most_sub_requests) × ((id : ℕ) × (kind : ℕ) × SubRequestFields input t id kind × HoldsOnce kind t)
 InOwnForm input (known p) = knowledges.InOwnForm input p
-InOwnForm input (put m t) = (m < 4) × ((fields : ExGuid × (ExGuid × ℕ)) × PutFields input t fields)
+InOwnForm input (put m t) = (m < most_puts) × ((fields : ExGuid × (ExGuid × ℕ)) × PutFields input t fields)
 InOwnForm input (allocate t) = (count : ℕ) × AllocateFields input t count
 InOwnForm input (packed p) = elements.InOwnForm input p
 

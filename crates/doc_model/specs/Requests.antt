@@ -13,6 +13,7 @@ use Rattle.stream_objects.specs.Trees.{IsTreeAt}
 use Rattle.doc_model.specs.Elements.{IsPackage}
 use Rattle.doc_model.specs.Fronts.{HasVersions, HasSignature}
 use Rattle.doc_model.specs.Knowledges.{IsKnowledge}
+use Rattle.doc_model.specs.Limits.{most_elements, most_puts, most_sub_requests}
 use Rattle.doc_model.specs.Walks.{below}
 use Rattle.doc_model.specs.declared.knowledge.Knowledge.{Knowledge}
 use Rattle.doc_model.specs.declared.request.CellRequest.{CellRequest}
@@ -68,8 +69,8 @@ pub record SaysRequest (input : List ℕ) (tree : Tree) (request : CellRequest) 
   pub kind : kind_of tree ≡ 0x40
   pub mark : (out-Tree tree).compound ≡ true
   pub subs : Any 0x42 (IsSub input) tree request.subs
-  pub few_subs : length request.subs ≤ 64
-  pub few_puts : puts_in request.subs ≤ 4
+  pub few_subs : length request.subs ≤ most_sub_requests
+  pub few_puts : puts_in request.subs ≤ most_puts
   pub one_package : One 0x15 (IsPackage input) tree request.elements
 
 -- The bytes are a request: the front, a tree in the form of a request with at most 8,192 elements, and nothing more.
@@ -79,4 +80,4 @@ pub record IsRequest (bytes : List ℕ) (request : CellRequest) : Type 0 where
   pub tree : Tree
   pub stands : IsTreeAt bytes tree 12 (length bytes)
   pub form : SaysRequest bytes tree request
-  pub few_elements : length request.elements ≤ 8192
+  pub few_elements : length request.elements ≤ most_elements

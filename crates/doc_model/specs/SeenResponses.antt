@@ -15,6 +15,7 @@ use Rattle.stream_objects.specs.Objects.{HasFields, One, Any, kind_of}
 use Rattle.stream_objects.specs.Trees.{IsTreeAt}
 use Rattle.doc_model.specs.ElementObjects.{NoFields}
 use Rattle.doc_model.specs.Knowledges.{IsKnowledge}
+use Rattle.doc_model.specs.Limits.{most_elements}
 use Rattle.doc_model.specs.NumberedElements.{IsNumberedPackage}
 use Rattle.doc_model.specs.declared.knowledge.Knowledge.{Knowledge}
 use Rattle.doc_model.specs.declared.response.Seen.{Seen}
@@ -139,4 +140,4 @@ pub record ReadsAs (bytes : List ℕ) (response : CellResponse) : Type 0 where
   pub tree : Tree
   pub stands : IsTreeAt bytes tree 12 (length bytes)
   pub form : IsCellResponse bytes tree response
-  pub few : length response.elements ≤ 8192
+  pub few : length response.elements ≤ most_elements

@@ -15,6 +15,9 @@ pub const MOST_REACHED_WEIGHT: u128 = 25_165_824;
 /// How many bytes a file may have: 16 MiB.
 pub const MOST_FILE: u64 = 16_777_216;
 
+/// How many objects a path from a root down to a leaf may have, both among them.
+pub const MOST_HIGH: usize = 8;
+
 /// How many uploads that aren't complete are kept.
 pub const MOST_PARTS: usize = 8;
 
@@ -38,6 +41,14 @@ pub const MOST_KEY_BYTES: usize = 1024;
 
 /// How many elements one package may have.
 pub const MOST_ELEMENTS: usize = 8192;
+
+/// How many sub-requests a binary request may have, and how many of them may be puts.
+pub const MOST_SUB_REQUESTS: usize = 64;
+
+pub const MOST_PUTS: usize = 4;
+
+/// How many revisions a chain of bases may have.
+pub const MOST_REVISIONS: usize = 1024;
 
 /// How many bodies a journal may have.
 pub const MOST_BODIES: u64 = 1_000_000;

@@ -4,6 +4,7 @@ ghost use Rattle.doc_model.specs.Editing.{entry, finds_no_place, is_key, with_en
 ghost use Rattle.doc_model.specs.Limits.{most_key_bytes};
 
 use compact_values::{Copied, NoMemory, Octets, Same, Seq, Text};
+use doc_model::limits::{MOST_KEY_BYTES, MOST_KEYS};
 use doc_model::{Entries, Entry};
 use std::alloc::Global;
 
@@ -28,14 +29,14 @@ pub fn has_key(key: &Text, entries: &[Entry]) -> bool
 pub fn is_long(bytes: usize) -> bool
     ensures { result ≡ nat_lt most_key_bytes bytes }
 {
-    bytes > 1024
+    bytes > MOST_KEY_BYTES
 }
 
 /// Whether the key isn't there, and no other can be added.
 pub fn finds_no_place(key: &Text, entries: &[Entry]) -> bool
     ensures { result ≡ finds_no_place key.now entries.now }
 {
-    !has_key(key, entries) && entries.len() >= 8
+    !has_key(key, entries) && entries.len() >= MOST_KEYS
 }
 
 fn entry(alloc: Global, key: &Text, value: &Octets) -> Result<Entry, NoMemory>

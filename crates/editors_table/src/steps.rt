@@ -6,6 +6,7 @@ use crate::editors::{count_others, others, own_editor, replaced, with_editor};
 use crate::entries::{finds_no_place, has_key, is_long, with_entry, without_key};
 use crate::plan::EditorPlan;
 use compact_values::{Copied, Guid, NoMemory, Octets, Text};
+use doc_model::limits::MOST_EDITORS;
 use doc_model::{Code, Editor, Editors};
 use std::alloc::Global;
 
@@ -19,7 +20,7 @@ pub fn join(
 ) -> Result<EditorPlan, NoMemory>
     ensures { IfOk result (λ plan. IsTurn editors (join client user.now until editors) plan) }
 {
-    if count_others(editors.as_slice(), client) < 64 {
+    if count_others(editors.as_slice(), client) < MOST_EDITORS {
         let after = with_editor(alloc, editors, client, user, until)?;
         Ok(EditorPlan::change(after))
     } else {

@@ -2,14 +2,11 @@
 use Rattle.std.specs.Prelude.{◌≡◌, ◌≢◌, ℕ, ◌<◌, ◌≤◌, ◌⊎◌, List, length, Option, Some, None, Result, Ok, Err}
 use Rattle.compact_values.specs.declared.ids.ExGuid.{ExGuid}
 use Rattle.doc_model.specs.FileObjects.{root_file}
+use Rattle.doc_model.specs.Limits.{most_file}
 use Rattle.file_nodes.specs.FileWalks.{stored_objects, first_fault}
 use Rattle.file_nodes.specs.declared.fault.NodeFault.{NodeFault}
 use Rattle.file_nodes.specs.declared.fault.NodeFault.TheVariants.{Absent, TooHigh, NotANode, SizeDiffers, TooLarge, NoMemory}
 use Rattle.file_nodes.specs.declared.object_map.StoredObject.{StoredObject}
-
--- the most bytes that a file may have: 16 MiB
-abbrev pub largest_file : ℕ
-largest_file = 16777216
 
 -- the file that a root stands for, where it is defined
 abbrev pub stored_file : List StoredObject → ExGuid → Option (List ℕ)
@@ -24,11 +21,11 @@ Agrees None (Ok size) = ⊥
 
 -- This is the file, and it isn't too large.
 abbrev pub IsFile : List StoredObject → ExGuid → List ℕ → Type 0
-IsFile objects root file = (stored_file objects root ≡ Some file) × (length file ≤ largest_file)
+IsFile objects root file = (stored_file objects root ≡ Some file) × (length file ≤ most_file)
 
 -- There is a file, and it is too large.
 abbrev pub IsTooLarge : List StoredObject → ExGuid → Type 0
-IsTooLarge objects root = (file : List ℕ) × (stored_file objects root ≡ Some file) × (largest_file < length file)
+IsTooLarge objects root = (file : List ℕ) × (stored_file objects root ≡ Some file) × (most_file < length file)
 
 -- What an answer says. A fault of the walk is the first one.
 abbrev pub IsFileAnswer : List StoredObject → ExGuid → Result (List ℕ) NodeFault → Type 0

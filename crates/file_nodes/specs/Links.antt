@@ -7,7 +7,7 @@ use Rattle.doc_model.specs.Nodes.{node_size}
 use Rattle.file_nodes.specs.FileWalks.{together, arrived, behind, walk}
 use Rattle.file_nodes.specs.declared.fault.NodeFault.{NodeFault}
 use Rattle.file_nodes.specs.declared.fault.NodeFault.TheVariants.{Absent, TooLarge}
-use Rattle.doc_model.specs.FileObjects.{most_high}
+use Rattle.doc_model.specs.Limits.{most_file, most_high}
 use Rattle.file_nodes.specs.declared.links.Link.{Link}
 use Rattle.file_nodes.specs.declared.object_map.StoredObject.{StoredObject}
 
@@ -65,7 +65,7 @@ joined_from objects place = file_from objects (map (filled (below_table objects)
 
 -- the length that a walk found, where a file may be as long
 abbrev pub sized_by : Result ℕ NodeFault → Result ℕ NodeFault
-sized_by (Ok size) = if nat_lt 16777216 size then Err TooLarge else Ok size
+sized_by (Ok size) = if nat_lt most_file size then Err TooLarge else Ok size
 sized_by (Err fault) = Err fault
 
 abbrev pub node_length : List StoredObject → StoredObject → Result ℕ NodeFault
@@ -80,7 +80,7 @@ length_answer objects root = length_at objects root (slice_get objects (place_of
 
 -- the answer by the walk and the file
 abbrev pub answer_by : Result ℕ NodeFault → List ℕ → Result (List ℕ) NodeFault
-answer_by (Ok size) file = if nat_lt 16777216 size then Err TooLarge else Ok file
+answer_by (Ok size) file = if nat_lt most_file size then Err TooLarge else Ok file
 answer_by (Err fault) file = Err fault
 
 abbrev pub node_answer : List StoredObject → ℕ → StoredObject → Result (List ℕ) NodeFault

@@ -14,13 +14,8 @@ use crate::object_map::{ObjectMap, StoredObject};
 use crate::places::{index_of, place_in};
 use crate::walks::{Walked, node_by, walks_below};
 use compact_values::{ExGuid, NoMemory, Octets};
+use doc_model::limits::{MOST_FILE, MOST_HIGH};
 use std::alloc::Global;
-
-/// The most bytes that a file may have: 16 MiB.
-const LARGEST: u64 = 16_777_216;
-
-/// The most objects that a path from a root down may have.
-const HIGHEST: usize = 8;
 
 /// The file of a root: empty without references, else that of a node. The file of another object without references
 /// is its bytes; an object with references is a node (MS-FSSHTTPD 2.2), and its file is that of its references, joined in
@@ -82,7 +77,7 @@ fn file_of_node(
         unreachable!()
     };
     let size = node_by(walks.as_slice(), top, link)?;
-    if size > LARGEST {
+    if size > MOST_FILE {
         return Err(NodeFault::TooLarge);
     }
     match joined(alloc, objects, links, walks.as_slice(), place) {
@@ -103,6 +98,6 @@ fn joined(
 {
     let children = all_filled(alloc, walks, links)?;
     let mut file = Octets::new(alloc);
-    append_file(&mut file, objects, children.as_slice(), HIGHEST, place)?;
+    append_file(&mut file, objects, children.as_slice(), MOST_HIGH, place)?;
     Ok(file)
 }

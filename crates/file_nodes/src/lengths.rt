@@ -10,10 +10,8 @@ use crate::object_map::{ObjectMap, StoredObject};
 use crate::places::{index_of, place_in};
 use crate::walks::{Walked, node_by, walks_below};
 use compact_values::ExGuid;
+use doc_model::limits::MOST_FILE;
 use std::alloc::Global;
-
-/// The most bytes that a file may have: 16 MiB.
-const LARGEST: u64 = 16_777_216;
 
 /// How long the file of a root is, where `file_of` answers it, and the same fault where it doesn't. Nothing is joined for it.
 pub fn file_length(alloc: Global, objects: &ObjectMap, root: &ExGuid) -> Result<u64, NodeFault>
@@ -61,7 +59,7 @@ fn length_of_node(
         unreachable!()
     };
     let size = node_by(walks.as_slice(), top, link)?;
-    if size > LARGEST {
+    if size > MOST_FILE {
         return Err(NodeFault::TooLarge);
     }
     Ok(size)

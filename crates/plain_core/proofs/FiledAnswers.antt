@@ -7,7 +7,7 @@ use Rattle.compact_values.specs.declared.ids.ExGuid.{ExGuid}
 use Rattle.doc_model.specs.declared.element.Element.{Element}
 use Rattle.doc_model.specs.Files.{root_object}
 use Rattle.doc_model.specs.Finding.{Manifest}
-use Rattle.file_nodes.specs.FileAnswers.{Exactly, IsFile, IsOrNoMemory, IsTooLarge, largest_file, stored_file}
+use Rattle.file_nodes.specs.FileAnswers.{Exactly, IsFile, IsOrNoMemory, IsTooLarge, stored_file}
 use Rattle.file_nodes.specs.declared.fault.NodeFault.{NodeFault}
 use Rattle.file_nodes.specs.declared.fault.NodeFault.TheVariants as faults
 use Rattle.file_nodes.specs.declared.object_map.StoredObject.{StoredObject}
@@ -38,13 +38,13 @@ module _ (objects : List StoredObject) (root : ExGuid) where
       not-large (inl e) = absurd (large cc)
       not-large (inr e) = absurd (memory cc)
 
-      by-length : (file : List ℕ) → found ≡ Some file → ((largest_file < length file) ⊎ (length file ≤ largest_file)) → found ≡ None
+      by-length : (file : List ℕ) → found ≡ Some file → ((most_file < length file) ⊎ (length file ≤ most_file)) → found ≡ None
       by-length file e (inl more) = not-large (l.1 (file, e, more))
       by-length file e (inr few) = not-this file ((f file).1 (e, few))
 
       at : (o : Option (List ℕ)) → found ≡ o → found ≡ None
       at None e = e
-      at (Some file) e = by-length file e (cases_lt largest_file (length file))
+      at (Some file) e = by-length file e (cases_lt most_file (length file))
 
   by-fault : (fault : NodeFault) → WhereFile (Err fault) → WhereLarge (Err fault) → IfOk (without_file fault) (λ filed. IsFiled filed found)
   by-fault faults.NoMemory f l = tt
@@ -61,7 +61,7 @@ under-root added ms objects root o r =
     ap (λ xs. stored_file xs root) o ∙ filed-once added ms root ∙ ap (option_and_then (stored_file (objects_with_bytes added ms))) r
 
 module _ (added : List Element) (ms : List Manifest) (objects : List StoredObject) (root : ExGuid) (o : objects ≡ objects_in added (groups_named ms)) (r : Some root ≡ root_object ms) where
-  pub answered-file : (file : List ℕ) → IsFile objects root file → (file_with_bytes added ms ≡ Some file) × (length file ≤ largest_file)
+  pub answered-file : (file : List ℕ) → IsFile objects root file → (file_with_bytes added ms ≡ Some file) × (length file ≤ most_file)
   answered-file file h = (sym (under-root added ms objects root o r) ∙ h.0, h.1)
 
   pub answered-fault : (answer : Result (List ℕ) NodeFault) (fault : NodeFault) (given : Result Filed NoMemory) → answer ≡ Err fault → given ≡ without_file fault

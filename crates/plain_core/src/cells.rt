@@ -3,8 +3,8 @@ ghost use Rattle.std.specs.Prelude.{◌≡◌, [], OnOk};
 ghost use Rattle.doc_model.specs.Finding.{with_new};
 ghost use Rattle.doc_model.specs.Reached.{same_cells};
 
-use crate::keys::{IdKey, cell_key};
-use compact_values::{NoMemory, Seq};
+use crate::keys::cell_key;
+use compact_values::{IdKey, NoMemory, Seq};
 use doc_model::{CellMap, CellMaps};
 use std::alloc::Global;
 use std::collections::BTreeMap;

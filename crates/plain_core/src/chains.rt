@@ -7,15 +7,12 @@ ghost use Rattle.plain_core.specs.Cataloging.{listed};
 ghost use Rattle.plain_core.specs.Chaining.{chain_length, TellsLengths};
 
 use crate::catalog::Catalog;
-use crate::keys::{IdKey, key_of};
 use crate::naming::{cells_of, currents_of};
 use crate::revisions::Revisions;
-use compact_values::{ExGuid, NoMemory};
+use compact_values::{ExGuid, IdKey, NoMemory, key_of};
+use doc_model::limits::MOST_REVISIONS;
 use std::alloc::Global;
 use std::collections::BTreeMap;
-
-/// How many revisions a chain may have.
-pub const LONGEST: usize = 1024;
 
 /// The lengths of chains that end, by the revisions with which they begin.
 type Lengths = BTreeMap<IdKey, usize>;
@@ -44,7 +41,7 @@ fn all_end(
 {
     let mut lengths = BTreeMap::new(alloc);
     for revision in currents {
-        if chain_length(catalog, revisions, &mut lengths, *revision, LONGEST)?.is_none() {
+        if chain_length(catalog, revisions, &mut lengths, *revision, MOST_REVISIONS)?.is_none() {
             return Ok(false);
         }
     }

@@ -7,10 +7,10 @@ ghost use Rattle.plain_core.specs.Cataloging.{listed};
 ghost use Rattle.plain_core.specs.Naming.{groups_in, is_closed, targets_by};
 
 use crate::catalog::Catalog;
-use crate::chains::LONGEST;
 use crate::once::Once;
 use crate::revisions::Revisions;
 use compact_values::{ExGuid, NoMemory};
+use doc_model::limits::MOST_REVISIONS;
 use doc_model::{Content, Object};
 use std::alloc::Global;
 
@@ -25,7 +25,7 @@ fn name_along(
     ensures named { OnOk result (named.new ≡ fold (with_new same_id) named.old (named_along (listed catalog.now) revisions.now.maps.now (enough revisions.now.maps.now) revision)) }
     ensures closed { OnOk result (is_closed (listed catalog.now) revisions.now.maps.now named.new ≡ true) }
 {
-    let mut left = LONGEST + revisions.maps.len() + 1;
+    let mut left = MOST_REVISIONS + revisions.maps.len() + 1;
     let mut at = revision;
     while left > 0 {
         match at {

@@ -12,6 +12,7 @@ use crate::revisions::Revisions;
 use crate::sayings::{Manifest, Mappings};
 use compact_values::{CellId, ExGuid, NoMemory};
 use doc_model::CellMap;
+use doc_model::limits::MOST_REVISIONS;
 use std::alloc::Global;
 
 /// The manifests of the root cell's revisions, the current one first.
@@ -72,7 +73,7 @@ fn chain<'a>(
     ensures { IfOk result (λ all. option_map (λ ms. map seen_manifest ms.items) all ≡ chain (listed catalog.now) revisions.now.maps.now longest revision) }
 {
     let mut all = Vec::new(alloc);
-    let mut left = 1024_usize;
+    let mut left = MOST_REVISIONS;
     let mut at = revision;
     while left > 0 {
         match at {

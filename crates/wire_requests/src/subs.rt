@@ -11,15 +11,10 @@ use crate::fields::{allocate_row, put_row, sub_row};
 use crate::walk::first_below;
 use compact_values::{NoMemory, Seq};
 use data_elements::{WireFault, read_knowledge};
+use doc_model::limits::{MOST_PUTS, MOST_SUB_REQUESTS};
 use doc_model::{Knowledge, WireKind, WireSub, WireSubs};
 use std::alloc::Global;
 use stream_objects::{Tree, only_child};
-
-/// The most sub-requests of a request.
-const SUB_REQUESTS: usize = 64;
-
-/// The most puts among them.
-const PUTS: usize = 4;
 
 // The knowledge that an object says.
 fn read_known(alloc: Global, bytes: &[u8], tree: &Tree) -> Result<Knowledge, WireFault>
@@ -58,7 +53,7 @@ fn read_pull(alloc: Global, bytes: &[u8], tree: &Tree) -> Result<WireKind, WireF
 fn read_put_fields(bytes: &[u8], puts: usize, tree: &Tree) -> Result<WireKind, WireFault>
     ensures { Gives result (put_fields_at bytes.now puts tree.now) }
 {
-    if puts >= PUTS {
+    if puts >= MOST_PUTS {
         return Err(fault(tree));
     }
     match put_row(bytes, tree) {
@@ -134,7 +129,7 @@ fn read_sub(
 ) -> Result<WireSub, WireFault>
     ensures { Gives result (sub_at bytes.now count puts tree.now) }
 {
-    if count >= SUB_REQUESTS {
+    if count >= MOST_SUB_REQUESTS {
         return Err(fault(tree));
     }
     let Some((id, (kind, _priority))) = sub_row(bytes, tree) else {
