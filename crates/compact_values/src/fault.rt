@@ -1,17 +1,12 @@
 ghost use Rattle.std.specs.Prelude.{◌≡◌};
 
 use std::alloc::{AllocError, AllocFailed};
-use std::fmt;
+use thiserror::Error;
 
 /// No memory was left. This answer is free everywhere: no clause ties it to a refused growth.
-#[derive(Clone, Copy, Debug, PartialEq, Eq)]
+#[derive(Clone, Copy, Debug, PartialEq, Eq, Error)]
+#[error("no memory")]
 pub struct NoMemory;
-
-impl fmt::Display for NoMemory {
-    fn fmt<W: fmt::Write>(&self, f: &mut fmt::Formatter<W>) -> fmt::Result {
-        f.write_str("no memory")
-    }
-}
 
 impl From<AllocError> for NoMemory {
     fn from(_: AllocError) -> Self {
@@ -26,13 +21,16 @@ impl<T: Drop> From<AllocFailed<T>> for NoMemory {
 }
 
 /// Why no value could be read at a place of the input.
-#[derive(Clone, Copy, Debug, PartialEq, Eq)]
+#[derive(Clone, Copy, Debug, PartialEq, Eq, Error)]
 pub enum ValueFault {
     /// The input ends inside a value; `place` is its length.
+    #[error("the input ends inside a value, at byte {place}")]
     Short { place: usize },
     /// No value begins at `place`, however the input goes on.
+    #[error("no value at byte {place}")]
     OutOfForm { place: usize },
     /// No memory was left.
+    #[error("no memory")]
     NoMemory,
 }
 

@@ -3,12 +3,15 @@ ghost use Rattle.envelope_grammar.specs.declared.fault.ReadFault.TheVariants as 
 
 use compact_values::NoMemory;
 use std::alloc::{AllocError, AllocFailed};
+use thiserror::Error;
 
 /// Why the text of an envelope is not read.
-#[derive(Clone, Copy, Debug, PartialEq, Eq)]
+#[derive(Clone, Copy, Debug, PartialEq, Eq, Error)]
 pub enum ReadFault {
     /// The text is not in the grammar.
+    #[error("the text is no envelope")]
     NotInGrammar,
+    #[error("no memory")]
     NoMemory,
 }
 
