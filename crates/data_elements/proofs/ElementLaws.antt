@@ -300,7 +300,7 @@ module _ (input : List ℕ) (fits : IsBytes input) where
       let none : check_at input 10 cs ≡ None = check_none input fits 10 cs a in
       rw (s.0, none, again_only input fits 0x02 blob_row (BlobContent input) (blob_again input fits) t bytes s.1, ap single s.1.1) refl
 
-  again_element : (t : Tree) (e : Element) → IsElement input t e → element_at input t ≡ Ok e
+  pub again_element : (t : Tree) (e : Element) → IsElement input t e → element_at input t ≡ Ok e
   unfolding element_at
   again_element t e h = ap (element_with input t) (element_again input fits t (e.id, (h.0, h.1.0)) h.1.1) ∙ ap (element_of e.id) (again_body t h.1.0 e.body h.1.2)
 

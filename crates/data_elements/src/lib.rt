@@ -34,7 +34,7 @@ mod write_group;
 pub use fault::ElementFault;
 pub use knowledge::{guid_row, read_knowledge};
 pub use numbered::read_numbered;
-pub use package::read_package;
+pub use package::{read_element, read_package};
 pub use rows::{has_no_fields, package_row};
 pub use wire_fault::WireFault;
 pub use write::{write_element, write_knowledge, write_package};

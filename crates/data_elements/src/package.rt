@@ -13,9 +13,10 @@ use doc_model::{Element, Elements};
 use std::alloc::Global;
 use stream_objects::Tree;
 
-/// An element. Its serial number is dropped.
+/// Reads one element, an object of type 01 (hexadecimal; MS-FSSHTTPB 2.2.1.12.1) that was read from these bytes. Its serial
+/// number is dropped. `SchemaFault` comes as for packages.
 #[tactic(auto, unfolding(crate::specs::Reading::element_at))]
-fn read_element(alloc: Global, bytes: &[u8], tree: &Tree) -> Result<Element, ElementFault>
+pub fn read_element(alloc: Global, bytes: &[u8], tree: &Tree) -> Result<Element, ElementFault>
     ensures { Gives result (element_at bytes.now tree.now) }
 {
     let Some((id, (_serial, kind))) = element_row(bytes, tree) else {
