@@ -3,6 +3,7 @@
 use Rattle.std.specs.Prelude.{ℕ, zero, suc, ◌-◌, ◌==◌, if◌then◌else◌, List, [], ◌∷◌, ◌++◌, length, find, Option, None, Some, option_map, option_and_then}
 use Rattle.compact_values.specs.declared.ids.ExGuid.{ExGuid}
 use Rattle.compact_values.specs.SameIds.{same_id}
+use Rattle.doc_model.specs.Limits.{most_high}
 use Rattle.doc_model.specs.Nodes.{node_size}
 
 -- an object as a file is made of it: its bytes are None where the blob that has them isn't there
