@@ -1,0 +1,4 @@
+pub mod Xml
+pub mod Words
+pub mod AnswerText
+pub mod WellFormed
