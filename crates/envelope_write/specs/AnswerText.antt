@@ -59,11 +59,13 @@ data_text (Plain (Answered reply)) = answered_text reply
 data_text (Cell bytes word) = data_holding (encode_of standard bytes)
 data_text outcome = None
 
+abbrev pub sub_attributes : List ℕ → List ℕ → List (List ℕ × List ℕ)
+sub_attributes token word =
+    (codes "SubRequestToken", encode_utf8_all token) ∷ (codes "ErrorCode", word) ∷ (codes "HResult", result_code word) ∷ []
+
 -- what is said of a subrequest, by its token
 unfoldable pub sub_text : SubAsk → Outcome → List ℕ
-sub_text sub outcome = element (codes "SubResponse")
-    ((codes "SubRequestToken", encode_utf8_all sub.token) ∷ (codes "ErrorCode", error_code outcome)
-    ∷ (codes "HResult", result_code (error_code outcome)) ∷ []) (data_text outcome)
+sub_text sub outcome = element (codes "SubResponse") (sub_attributes sub.token (error_code outcome)) (data_text outcome)
 
 -- One answer for each subrequest, in order.
 unfoldable pub subs_text : List SubAsk → List Outcome → List ℕ
@@ -71,10 +73,12 @@ subs_text [] outcomes = []
 subs_text (sub ∷ subs) [] = []
 subs_text (sub ∷ subs) (outcome ∷ outcomes) = sub_text sub outcome ++ subs_text subs outcomes
 
+abbrev pub response_attributes : List ℕ → List ℕ → List (List ℕ × List ℕ)
+response_attributes url token =
+    (codes "Url", encode_utf8_all url) ∷ (codes "RequestToken", encode_utf8_all token) ∷ (codes "HealthScore", codes "0") ∷ []
+
 unfoldable pub response_text : Ask → List Outcome → List ℕ
-response_text ask outcomes = element (codes "Response")
-    ((codes "Url", encode_utf8_all ask.url) ∷ (codes "RequestToken", encode_utf8_all ask.token) ∷ (codes "HealthScore", codes "0") ∷ [])
-    (Some (subs_text ask.subs outcomes))
+response_text ask outcomes = element (codes "Response") (response_attributes ask.url ask.token) (Some (subs_text ask.subs outcomes))
 
 -- Each Request takes as many answers as it has subrequests.
 unfoldable pub responses_text : List Ask → List Outcome → List ℕ

@@ -1,5 +1,5 @@
 -- Well-formed XML: the grammar of envelopes, for elements with any names, and with values of any length.
-use Rattle.std.specs.Prelude.{◌≡◌, ℕ, zero, suc, true, false, not, List, [], ◌∷◌, ◌++◌, ◌==◌}
+use Rattle.std.specs.Prelude.{◌≡◌, ℕ, zero, suc, true, not, List, [], ◌∷◌, ◌++◌, ◌==◌}
 use Rattle.std.specs.List.{AllByRecursion}
 use Rattle.std.specs.Str.{IsUtf8, all_scalars}
 use Rattle.doc_model.specs.declared.reply.Reply.{Reply}
