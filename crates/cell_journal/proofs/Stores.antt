@@ -1,5 +1,5 @@
 -- A write and the sync behind it.
-use Rattle.std.proofs.Common.{◌≡◌, ◌⊎◌, ℕ, List, inl, inr, ⊎_elim, arith, ◌≤◌}
+use Rattle.std.proofs.Common.{ℕ, List, inl, inr, ⊎_elim, arith}
 use Rattle.host_edge.specs.Disks.{Torn, Follows, NoneIsNew, Elapses, LeavesOnly}
 use Rattle.host_edge.specs.MemDiskLaws.{torn_nothing}
 use Rattle.cell_journal.specs.Stores.{HasPart, Adds}

@@ -1,7 +1,7 @@
 ghost use Rattle.std.specs.Prelude.{◌≡◌, ◌≢◌, ◌⊎◌, ◌+◌, ◌*◌, ◌^◌, ◌<◌, ◌≤◌, ◌↔◌, ◌++◌, [], ◌∷◌, List, ℕ, min, length, take, drop, IsTrue, OnOk, OnErr, IfOk, IfErr, IfSome, IsErrOf, Some, None, Ok, Err, true, false};
 ghost use Rattle.std.specs.declared.option.Option.{Option};
 ghost use Rattle.host_edge.specs.Causes.{Rose};
-ghost use Rattle.host_edge.specs.Disks.{LeavesOnly, Only, Untouched};
+ghost use Rattle.host_edge.specs.Disks.{LeavesOnly, NoneIsNew, Only, Untouched};
 ghost use Rattle.compact_values.specs.Compact.{little_endian};
 ghost use Rattle.cell_journal.specs.Causes.{HasDiskCause};
 ghost use Rattle.cell_journal.specs.Layout.{header};
@@ -162,6 +162,8 @@ impl<D: Disk> Reading<D> {
         ensures header { (c : List ℕ) → D.seen disk ≡ Some c → OnOk result (header_fault c ≡ None) }
         ensures place { IfErr result (λ e. (place : ℕ) → e.1 ≡ JournalFault.NotAJournal place
             → (c : List ℕ) → D.seen disk ≡ Some c → header_fault c ≡ Some place) }
+        ensures none_new { IfOk result (λ reading. NoneIsNew (D.may_leave disk) (D.may_leave reading.disk)) }
+        ensures none_new_err { IfErr result (λ e. NoneIsNew (D.may_leave disk) (D.may_leave e.0)) }
         ensures any_moment { IfOk result (λ reading. LeavesOnly D.moment D.left_since disk reading.disk (D.may_leave disk)) }
         ensures any_moment_err { IfErr result (λ e. LeavesOnly D.moment D.left_since disk e.0 (D.may_leave disk)) }
         ensures later { IfErr result (λ e. D.faults disk ≤ D.faults e.0) }
@@ -275,6 +277,7 @@ fn read_header<D: Disk>(disk: &mut D) -> Result<(Guid, u64), JournalFault>
     ensures total { IfOk result (λ found. 24 ≤ found.1) }
     ensures place { (place : ℕ) → IsErrOf result (JournalFault.NotAJournal place)
         → (c : List ℕ) → D.seen disk.old ≡ Some c → header_fault c ≡ Some place }
+    ensures none_new { NoneIsNew (D.may_leave disk.old) (D.may_leave disk.new) }
     ensures any_moment { LeavesOnly D.moment D.left_since disk.old disk.new (D.may_leave disk.old) }
     ensures cause { HasDiskCause (D.faults disk.old) (D.faults disk.new) result }
     ensures not_full { IsErrOf result JournalFault.Full → ⊥ }

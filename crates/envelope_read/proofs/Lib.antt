@@ -1,5 +1,6 @@
 pub mod Digits
 pub mod Lookups
+pub mod White
 pub mod Turns
 pub mod Callables
 pub mod TextLengths

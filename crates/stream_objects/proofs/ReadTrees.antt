@@ -13,7 +13,8 @@ use Rattle.compact_values.proofs.Codes.{found_again, found_takes}
 use Rattle.stream_objects.specs.Answers.{SpellsTree}
 use Rattle.stream_objects.specs.HeaderReading.{header_at}
 use Rattle.stream_objects.specs.HeaderValues.{SpellsHeader}
-use Rattle.stream_objects.specs.Trees.{Consecutive, StartsAt, EndsBehind, IsObject, objects}
+use Rattle.stream_objects.specs.Trees.{Consecutive, StartsAt, EndsBehind, IsObject, IsTreeAt, objects}
+use Rattle.stream_objects.specs.declared.limits.TheConstants.{MOST_LEVELS, MOST_OBJECTS}
 use Rattle.stream_objects.specs.TreeReading.{Started, started_at, ended_at, before, until_end, children_at, with_children, whole_object, object_at, if_whole, tree_of}
 use Rattle.stream_objects.specs.declared.headers.Header.{Header}
 use Rattle.stream_objects.specs.declared.headers.Header.TheVariants.{Start, End}
@@ -26,7 +27,7 @@ use Rattle.stream_objects.proofs.Steps.{goes_on}
 
 -- ---- options
 
-and_then_parts : {A B : Type 0} (f : A → Option B) (o : Option A) (y : B) → option_and_then f o ≡ Some y → (x : A) × (o ≡ Some x) × (f x ≡ Some y)
+pub and_then_parts : {A B : Type 0} (f : A → Option B) (o : Option A) (y : B) → option_and_then f o ≡ Some y → (x : A) × (o ≡ Some x) × (f x ≡ Some y)
 and_then_parts {A} {B} f (Some x) y e = (x, refl, e)
 and_then_parts {A} {B} f None y e = absurd cc
 
@@ -204,29 +205,39 @@ module _ (input : List ℕ) where
         let s = and_then_parts (whole_object (object_at n input) input) (started_at (length input) from (met from)) (t, next) h in
         takes_behind n (takes_object n) s.0 s.0.compound t from next (takes_start from s.0 le (met from) refl s.1) s.2
 
+-- ---- objects that end with the input
+
+-- one that stands from a place up to the input's end is read
+pub stands_is_read : (bytes : List ℕ) (tree : Tree) (from : ℕ) → IsTreeAt bytes tree from (length bytes) → option_and_then (if_whole bytes) (object_at MOST_LEVELS bytes from) ≡ Some tree
+stands_is_read bytes tree from s =
+    let few : nat_le (objects tree) MOST_OBJECTS ≡ true = grind (arith, nat_tests, s.few) in
+    ap (option_and_then (if_whole bytes)) (again_object bytes MOST_LEVELS tree from (length bytes) s.object)
+    ∙ cond-true _ _ _ (and_from (eqb (length bytes) (length bytes)) (nat_le (objects tree) MOST_OBJECTS) (eq-eqb (length bytes) (length bytes) refl) few)
+
+-- one that is read stands there
+pub read_stands : (bytes : List ℕ) (tree : Tree) (from : ℕ) → IsBytes bytes → from ≤ length bytes → option_and_then (if_whole bytes) (object_at MOST_LEVELS bytes from) ≡ Some tree → IsTreeAt bytes tree from (length bytes)
+read_stands bytes tree from fits le h =
+    let f = and_then_parts (if_whole bytes) (object_at MOST_LEVELS bytes from) tree h in
+    let c = cond_some (eqb f.0.1 (length bytes) && nat_le (objects f.0.0) MOST_OBJECTS) f.0.0 tree f.2 in
+    let tests = and_parts (eqb f.0.1 (length bytes)) (nat_le (objects f.0.0) MOST_OBJECTS) c.0 in
+    let few : objects f.0.0 ≤ MOST_OBJECTS = grind (arith, nat_tests, tests.1) in
+    subst (λ (t : Tree). IsTreeAt bytes t from (length bytes)) c.1
+    (record {
+      object = subst (λ (m : ℕ). IsObject MOST_LEVELS bytes f.0.0 from m) (eqb-true f.0.1 (length bytes) tests.0) (takes_object bytes fits MOST_LEVELS f.0.0 from f.0.1 le f.1);
+      few = few;
+    })
+
 -- ---- whole inputs
 
 -- what the bytes spell is read
 pub spelled_is_read : (bytes : List ℕ) (tree : Tree) → SpellsTree tree bytes → tree_of bytes ≡ Some tree
 unfolding tree_of
-spelled_is_read bytes tree s =
-    let few : nat_le (objects tree) 262144 ≡ true = grind (arith, nat_tests, s.few) in
-    ap (option_and_then (if_whole bytes)) (again_object bytes 12 tree 0 (length bytes) s.object)
-    ∙ cond-true _ _ _ (and_from (eqb (length bytes) (length bytes)) (nat_le (objects tree) 262144) (eq-eqb (length bytes) (length bytes) refl) few)
+spelled_is_read bytes tree s = stands_is_read bytes tree 0 s
 
 -- what is read is spelled
 pub read_is_spelled : (bytes : List ℕ) (tree : Tree) → IsBytes bytes → tree_of bytes ≡ Some tree → SpellsTree tree bytes
 unfolding tree_of
-read_is_spelled bytes tree fits h =
-    let f = and_then_parts (if_whole bytes) (object_at 12 bytes 0) tree h in
-    let c = cond_some (eqb f.0.1 (length bytes) && nat_le (objects f.0.0) 262144) f.0.0 tree f.2 in
-    let tests = and_parts (eqb f.0.1 (length bytes)) (nat_le (objects f.0.0) 262144) c.0 in
-    let few : objects f.0.0 ≤ 262144 = grind (arith, nat_tests, tests.1) in
-    subst (λ (t : Tree). SpellsTree t bytes) c.1
-    (record {
-      object = subst (λ (m : ℕ). IsObject 12 bytes f.0.0 0 m) (eqb-true f.0.1 (length bytes) tests.0) (takes_object bytes fits 12 f.0.0 0 f.0.1 (omega arith) f.1);
-      few = few;
-    })
+read_is_spelled bytes tree fits h = read_stands bytes tree 0 fits (omega arith) h
 
 pub read_exactly : (bytes : List ℕ) (tree : Tree) → ((i : ℕ) → get_or bytes i 0 < 256) → (tree_of bytes ≡ Some tree) ↔ SpellsTree tree bytes
 read_exactly bytes tree fits = (read_is_spelled bytes tree fits, spelled_is_read bytes tree)

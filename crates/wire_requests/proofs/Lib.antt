@@ -6,4 +6,5 @@ pub mod Splits
 pub mod SubLaws
 pub mod RequestLaws
 pub mod OneAnswer
+pub mod ComputedRequests
 pub mod RequestStands

@@ -69,7 +69,7 @@ module _ (bytes : List ℕ) (fits : IsBytes bytes) where
   abbrev J : Tree → Result CellRequest ℕ → Type 0
   J t = Judges (InOwnForm bytes) part_start (SaysRequest bytes t) (request_parts bytes t)
 
-  says : (t : Tree) (r : CellRequest) → request_at bytes t ≡ Ok r → SaysRequest bytes t r
+  pub says : (t : Tree) (r : CellRequest) → request_at bytes t ≡ Ok r → SaysRequest bytes t r
   says t r e = go (request_at bytes t) e (judges_request bytes fits t) where
     go : (x : Result CellRequest ℕ) → x ≡ Ok r → J t x → SaysRequest bytes t r
     go (Ok s) e j = let same : s ≡ r = cc in subst (SaysRequest bytes t) same j.0

@@ -1,3 +1,4 @@
 pub mod WalkReading
 pub mod RequestReading
+pub mod RequestOf
 pub mod RequestAnswers

@@ -1,6 +1,6 @@
 //! What holds of requests themselves. Each is the contract of a function that does nothing.
 
-ghost use Rattle.std.specs.Prelude.{◌≡◌, ℕ, ◌+◌, ◌<◌, List};
+ghost use Rattle.std.specs.Prelude.{◌≡◌, ℕ, ◌+◌, ◌<◌, ◌↔◌, List, Some};
 ghost use Rattle.std.specs.List.{AllByRecursion};
 ghost use Rattle.stream_objects.specs.Trees.{IsTreeAt};
 ghost use Rattle.stream_objects.specs.declared.tree.Tree.{Tree};
@@ -9,10 +9,16 @@ ghost use Rattle.doc_model.specs.Requests.{IsRequest};
 ghost use Rattle.doc_model.specs.FittingRequests.{FitsRequest};
 ghost use Rattle.doc_model.specs.WrittenRequests.{request_bytes};
 ghost use Rattle.doc_model.specs.declared.request.CellRequest.{CellRequest};
+ghost use Rattle.wire_requests.specs.RequestOf.{request_of};
 
 /// Bytes are at most one request.
 pub fn one_request()
     ensures { (bytes : List ℕ) (x y : CellRequest) → AllByRecursion (λ b. b < 256) bytes → IsRequest bytes x → IsRequest bytes y → x ≡ y }
+{}
+
+/// `request_of` computes the request that bytes are: it gives one exactly where they are that request.
+pub fn computed_requests()
+    ensures { (bytes : List ℕ) (r : CellRequest) → AllByRecursion (λ b. b < 256) bytes → (request_of bytes ≡ Some r) ↔ IsRequest bytes r }
 {}
 
 /// What is written of a request is that request, where its numbers are in the ranges of their fields, each kind is that of

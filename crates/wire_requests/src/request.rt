@@ -3,6 +3,7 @@ ghost use Rattle.std.specs.Prelude.{◌≡◌, [], option_map};
 ghost use Rattle.doc_model.specs.Fronts.{HasVersions, HasSignature};
 ghost use Rattle.data_elements.specs.Reading.{package_at};
 ghost use Rattle.wire_requests.specs.RequestAnswers.{IsAnswer, IsOnlyAnswer, GivesElements, GivesRequest};
+ghost use Rattle.wire_requests.specs.RequestOf.{Computes, request_of};
 ghost use Rattle.wire_requests.specs.RequestReading.{split, parts_at, request_at};
 
 use crate::fault::{fault, wire_fault};
@@ -125,6 +126,8 @@ pub fn read_cell_request(alloc: Global, bytes: &[u8]) -> Result<CellRequest, Wir
     ensures answer { IsAnswer bytes.now result }
     // There is no other answer, unless memory runs out.
     ensures only { IsOnlyAnswer bytes.now result }
+    // The reading on lists gives the same.
+    ensures computed { Computes result (request_of bytes.now) }
 {
     find_request(alloc, bytes)
 }

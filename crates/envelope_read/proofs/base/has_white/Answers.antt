@@ -1,5 +1,5 @@
 use Rattle.std.proofs.Common.{arith}
-use Rattle.envelope_read.proofs.Lookups.{nothing_white}
+use Rattle.envelope_read.proofs.White.{nothing_white}
 use Rattle.envelope_read.proofs.base.has_white.Goals as goal
 
 pub returns-in-None-memchr : goal.returns-in-None-memchr

@@ -1,0 +1,6 @@
+pub mod Again
+pub mod Flags
+pub mod Bodies
+pub mod Sizes
+pub mod FrontElements
+pub mod OneChange

@@ -1,0 +1,11 @@
+pub mod Kinds
+pub mod Rows
+pub mod Changes
+pub mod FittingCalls
+pub mod Taking
+pub mod Exact
+pub mod Codes
+pub mod Steps
+pub mod Elements
+pub mod Asking
+pub mod Sizes

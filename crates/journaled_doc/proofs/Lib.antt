@@ -1,0 +1,10 @@
+pub mod Eras
+pub mod Moments
+pub mod Keeping
+pub mod Calls
+pub mod Submits
+pub mod Bodies
+pub mod Replaying
+pub mod Reopened
+pub mod Openable
+pub mod Restarts

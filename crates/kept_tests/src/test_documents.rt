@@ -1,0 +1,95 @@
+// Documents on disks in memory, and calls on them. Each call is first seen to be one that may be made, so that no test has to
+// prove it.
+ghost use Rattle.std.specs.Prelude.{◌≡◌, IsTrue};
+ghost use Rattle.change_record.specs.Changes.{IsShort};
+
+use cell_journal::Reading;
+use change_record::limits::MOST_BODY;
+use change_record::{can_move, is_valid, write_change};
+use compact_values::{Guid, Text};
+use doc_model::{Call, Sub, Submitted};
+use host_edge::{Disk, MemDisk};
+use journaled_doc::{JournaledDoc, OpenFault};
+use plain_core::PlainCore;
+use std::alloc::Global;
+
+/// A document in memory whose changes are on a disk in memory.
+pub type Kept = JournaledDoc<PlainCore, MemDisk>;
+
+/// The document's GUID.
+pub const G: Guid = Guid {
+    number: 0x0011_2233_4455_6677_8899_aabb_ccdd_eeff,
+};
+
+/// The bytes that are written on a disk in all, and its calls.
+const ROOM: usize = 4096;
+
+const CALLS: usize = 64;
+
+/// A new document, on a disk whose calls with these numbers fail. None where one of them is a call of its creation.
+pub fn create(alloc: Global, fail: &[u64]) -> Option<Kept> {
+    let disk = MemDisk::new(alloc, ROOM, CALLS, fail).ok()?;
+    let core = PlainCore::new(alloc, G).ok()?;
+    match JournaledDoc::create(alloc, core, disk) {
+        Ok(doc) => Some(doc),
+        Err(_) => None,
+    }
+}
+
+/// A call of Anna's.
+pub fn call(alloc: Global, moment: u64, sub: Sub) -> Option<Call> {
+    Some(Call {
+        moment,
+        user: Text::from_str(alloc, "anna").ok()?,
+        sub,
+    })
+}
+
+fn is_short(alloc: Global, call: &Call) -> bool
+    ensures { IsTrue result → IsShort call.now }
+{
+    if !can_move(&call.sub) {
+        return true;
+    }
+    match write_change(alloc, call) {
+        Ok(body) => body.len() <= MOST_BODY,
+        Err(_) => false,
+    }
+}
+
+/// Makes a call as this caller. None where it may not be made.
+pub fn submit(alloc: Global, doc: &mut Kept, caller: u32, call: &Call) -> Option<Submitted> {
+    if !is_valid(call) || !is_short(alloc, call) {
+        return None;
+    }
+    Some(doc.submit(alloc, caller, call))
+}
+
+/// Whether a call was answered.
+pub fn is_answered(submitted: Option<Submitted>) -> bool {
+    match submitted {
+        Some(Submitted::Answered { .. }) => true,
+        _ => false,
+    }
+}
+
+/// The document of a disk with these bytes.
+pub fn reopen(alloc: Global, image: &[u8]) -> Result<Kept, OpenFault> {
+    let Ok(mut disk) = MemDisk::new(alloc, ROOM, CALLS, &[]) else {
+        return Err(OpenFault::NoMemory);
+    };
+    if disk.write_at(0, image).is_err() {
+        return Err(OpenFault::DiskFault);
+    }
+    let reading = match Reading::begin(disk) {
+        Ok(reading) => reading,
+        Err((_, _)) => return Err(OpenFault::NotAJournal { place: 0 }),
+    };
+    let Ok(core) = PlainCore::new(alloc, reading.guid()) else {
+        return Err(OpenFault::NoMemory);
+    };
+    match JournaledDoc::recover(alloc, core, reading) {
+        Ok(doc) => Ok(doc),
+        Err((_, fault)) => Err(fault),
+    }
+}
