@@ -7,6 +7,7 @@ use Rattle.compact_values.specs.declared.ids.ExGuid.{ExGuid}
 use Rattle.doc_model.specs.declared.element.Element.{Element}
 use Rattle.doc_model.specs.Files.{root_object}
 use Rattle.doc_model.specs.Finding.{Manifest}
+use Rattle.doc_model.specs.Limits.{most_file}
 use Rattle.file_nodes.specs.FileAnswers.{Exactly, IsFile, IsOrNoMemory, IsTooLarge, stored_file}
 use Rattle.file_nodes.specs.declared.fault.NodeFault.{NodeFault}
 use Rattle.file_nodes.specs.declared.fault.NodeFault.TheVariants as faults
