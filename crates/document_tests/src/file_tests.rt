@@ -11,10 +11,18 @@ fn id(value: u32) -> ExGuid {
     }
 }
 
-/// Adds an object. `None` where memory ran out.
-fn add(
+/// An object, which a map borrows.
+#[derive(Drop)]
+struct Kept {
+    value: u32,
+    references: Ids,
+    bytes: Octets,
+}
+
+/// Keeps an object. `None` where memory ran out.
+fn keep(
     alloc: Global,
-    map: &mut ObjectMap,
+    kept: &mut Vec<Kept>,
     value: u32,
     references: &[u32],
     bytes: &[u8],
@@ -23,7 +31,27 @@ fn add(
     for reference in references {
         ids.push(id(*reference)).ok()?;
     }
-    map.add(id(value), &ids, bytes).ok()
+    let mut own = Octets::new(alloc);
+    own.extend_from_slice(bytes).ok()?;
+    kept.push(Kept {
+        value,
+        references: ids,
+        bytes: own,
+    })
+    .ok()
+}
+
+/// The file of an object among these.
+fn file_from(alloc: Global, kept: &[Kept], root: u32) -> Result<Octets, NodeFault> {
+    let mut map = ObjectMap::new(alloc);
+    for object in kept {
+        let bytes = object.bytes.as_slice();
+        match map.add(id(object.value), &object.references, bytes) {
+            Ok(()) => {}
+            Err(_) => return Err(NodeFault::NoMemory),
+        }
+    }
+    file_of(alloc, &map, &id(root))
 }
 
 /// An intermediate node with an empty signature and this data size: the start of 1F, the object 21 with the item
@@ -36,20 +64,20 @@ fn node(size: u64) -> [u8; 16] {
 }
 
 /// Objects 2 with the bytes `ab` and 3 with `c`, and over them an object 1 with these references and bytes.
-fn small(alloc: Global, references: &[u32], bytes: &[u8]) -> Option<ObjectMap> {
-    let mut map = ObjectMap::new(alloc);
-    add(alloc, &mut map, 2, &[], b"ab")?;
-    add(alloc, &mut map, 3, &[], b"c")?;
-    add(alloc, &mut map, 1, references, bytes)?;
-    Some(map)
+fn small(alloc: Global, references: &[u32], bytes: &[u8]) -> Option<Vec<Kept>> {
+    let mut kept = Vec::new(alloc);
+    keep(alloc, &mut kept, 2, &[], b"ab")?;
+    keep(alloc, &mut kept, 3, &[], b"c")?;
+    keep(alloc, &mut kept, 1, references, bytes)?;
+    Some(kept)
 }
 
 fn small_file(alloc: Global, references: &[u32], bytes: &[u8]) -> Option<Octets> {
-    file_of(alloc, &small(alloc, references, bytes)?, &id(1)).ok()
+    file_from(alloc, small(alloc, references, bytes)?.as_slice(), 1).ok()
 }
 
 fn small_fault(alloc: Global, references: &[u32], bytes: &[u8]) -> Option<NodeFault> {
-    file_of(alloc, &small(alloc, references, bytes)?, &id(1)).err()
+    file_from(alloc, small(alloc, references, bytes)?.as_slice(), 1).err()
 }
 
 #[test]
@@ -65,9 +93,9 @@ fn leaves_are_joined_in_order(rt: HostRuntime) -> Result<(), Fail> {
 #[test]
 fn first_object_with_an_id_counts(rt: HostRuntime) -> Result<(), Fail> {
     let alloc = rt.alloc();
-    let mut map = small(alloc, &[2], &node(2)).ok_or("memory")?;
-    add(alloc, &mut map, 2, &[], b"xyz").ok_or("memory")?;
-    let file = file_of(alloc, &map, &id(1))
+    let mut kept = small(alloc, &[2], &node(2)).ok_or("memory")?;
+    keep(alloc, &mut kept, 2, &[], b"xyz").ok_or("memory")?;
+    let file = file_from(alloc, kept.as_slice(), 1)
         .ok()
         .ok_or("the objects are a file")?;
     assert_eq!(rt; file.as_slice(), b"ab".as_slice());
@@ -99,85 +127,80 @@ fn nodes_end_with_their_bytes(rt: HostRuntime) {
 }
 
 /// A path of so many objects, down to a leaf of one byte.
-fn path(alloc: Global, objects: u32) -> Option<ObjectMap> {
-    let mut map = ObjectMap::new(alloc);
+fn path(alloc: Global, objects: u32) -> Option<Vec<Kept>> {
+    let mut kept = Vec::new(alloc);
     for value in 1..objects {
-        add(alloc, &mut map, value, &[value + 1], &node(1))?;
+        keep(alloc, &mut kept, value, &[value + 1], &node(1))?;
     }
-    add(alloc, &mut map, objects, &[], b"x")?;
-    Some(map)
+    keep(alloc, &mut kept, objects, &[], b"x")?;
+    Some(kept)
 }
 
 #[test]
 fn paths_of_8_and_9_objects(rt: HostRuntime) -> Result<(), Fail> {
     let alloc = rt.alloc();
     let eight = path(alloc, 8).ok_or("memory")?;
-    let file = file_of(alloc, &eight, &id(1))
+    let file = file_from(alloc, eight.as_slice(), 1)
         .ok()
         .ok_or("the objects are a file")?;
     assert_eq!(rt; file.as_slice(), b"x".as_slice());
     let nine = path(alloc, 9).ok_or("memory")?;
-    assert!(rt; file_of(alloc, &nine, &id(1)).err() == Some(NodeFault::TooHigh));
+    assert!(rt; file_from(alloc, nine.as_slice(), 1).err() == Some(NodeFault::TooHigh));
     Ok(())
 }
 
 /// A root 7 over six nodes, each with 64 references to the one below, down to the leaf 0. The sizes are true.
-fn wide(alloc: Global, leaf: &[u8]) -> Option<ObjectMap> {
-    let mut map = ObjectMap::new(alloc);
-    add(alloc, &mut map, 0, &[], leaf)?;
+fn wide(alloc: Global, leaf: &[u8]) -> Option<Vec<Kept>> {
+    let mut kept = Vec::new(alloc);
+    keep(alloc, &mut kept, 0, &[], leaf)?;
     let mut size = leaf.len() as u64;
     for value in 1..8 {
         size = size.wrapping_mul(64);
-        add(alloc, &mut map, value, &[value - 1; 64], &node(size))?;
+        keep(alloc, &mut kept, value, &[value - 1; 64], &node(size))?;
     }
-    Some(map)
+    Some(kept)
 }
 
 #[test]
 fn each_object_is_walked_once_for_a_height(rt: HostRuntime) -> Result<(), Fail> {
     let alloc = rt.alloc();
     let nothing = wide(alloc, b"").ok_or("memory")?;
-    let file = file_of(alloc, &nothing, &id(7))
+    let file = file_from(alloc, nothing.as_slice(), 7)
         .ok()
         .ok_or("the objects are a file")?;
     assert_eq!(rt; file.len(), 0);
     let large = wide(alloc, b"x").ok_or("memory")?;
-    assert!(rt; file_of(alloc, &large, &id(7)).err() == Some(NodeFault::TooLarge));
+    assert!(rt; file_from(alloc, large.as_slice(), 7).err() == Some(NodeFault::TooLarge));
     Ok(())
 }
 
 /// A root over 64 nodes, each with 4 references to a leaf of 65,536 bytes, and over these last objects.
-fn largest(alloc: Global, last: &[u32], size: u64) -> Option<ObjectMap> {
-    let mut map = ObjectMap::new(alloc);
-    add(alloc, &mut map, 3, &[], &[5; 65_536])?;
-    add(alloc, &mut map, 2, &[3, 3, 3, 3], &node(262_144))?;
-    add(alloc, &mut map, 4, &[], b"x")?;
-    let mut ids = Ids::new(alloc);
-    for _ in 0..64 {
-        ids.push(id(2)).ok()?;
-    }
-    for value in last {
-        ids.push(id(*value)).ok()?;
-    }
-    map.add(id(1), &ids, &node(size)).ok()?;
-    Some(map)
+fn largest(alloc: Global, last: &[u32], size: u64) -> Option<Vec<Kept>> {
+    let mut kept = Vec::new(alloc);
+    keep(alloc, &mut kept, 3, &[], &[5; 65_536])?;
+    keep(alloc, &mut kept, 2, &[3, 3, 3, 3], &node(262_144))?;
+    keep(alloc, &mut kept, 4, &[], b"x")?;
+    let mut values = vec![in alloc; 2; 64].ok()?;
+    values.extend_from_slice(last).ok()?;
+    keep(alloc, &mut kept, 1, values.as_slice(), &node(size))?;
+    Some(kept)
 }
 
 #[test]
 fn files_of_16_mib(rt: HostRuntime) -> Result<(), Fail> {
     let alloc = rt.alloc();
     let most = largest(alloc, &[], 16_777_216).ok_or("memory")?;
-    let file = file_of(alloc, &most, &id(1))
+    let file = file_from(alloc, most.as_slice(), 1)
         .ok()
         .ok_or("the objects are a file")?;
     assert_eq!(rt; file.len(), 16_777_216);
     let more = largest(alloc, &[4], 16_777_217).ok_or("memory")?;
-    assert!(rt; file_of(alloc, &more, &id(1)).err() == Some(NodeFault::TooLarge));
+    assert!(rt; file_from(alloc, more.as_slice(), 1).err() == Some(NodeFault::TooLarge));
     Ok(())
 }
 
 /// The objects of a file that was cut.
-fn objects_of(alloc: Global, chunked: &Chunked) -> Option<ObjectMap> {
+fn objects_of(alloc: Global, chunked: &Chunked) -> Option<ObjectMap<'_>> {
     let mut map = ObjectMap::new(alloc);
     for element in chunked.elements.as_slice() {
         if let Body::Group { objects } = &element.body {

@@ -1,6 +1,5 @@
 -- The put of a file that is cut may be made.
 use Rattle.std.proofs.Common.{◌≤◌, ◌+◌, arith}
-use Rattle.std.specs.List.{All}
 use Rattle.std.proofs.lemmas.List.Elements.{All-from_recursion}
 use Rattle.doc_model.specs.Limits.{most_objects}
 use Rattle.doc_model.specs.Weights.{objects_written}

@@ -1,9 +1,8 @@
 -- What the reader of a file answers is what the walk and the file say, and nothing else is.
-use Rattle.std.proofs.Common.{◌≡◌, ◌≢◌, ℕ, ◌<◌, ◌≤◌, Bool, true, false, List, [], ◌∷◌, length, map, get_or, Option, Some, None, Result, Ok, Err, inl, inr, eqb, refl, sym, ap, subst, ◌∙◌, arith}
+use Rattle.std.proofs.Common.{◌≡◌, ◌≢◌, ℕ, ◌<◌, ◌≤◌, Bool, true, false, List, [], length, map, get_or, Option, Some, None, Result, Ok, Err, inl, inr, eqb, refl, sym, ap, subst, ◌∙◌, arith}
 use Rattle.std.specs.Prelude.{cond, slice_get, nat_lt, option_and_then}
 use Rattle.std.specs.Option.{option_map}
 use Rattle.std.proofs.lemmas.Bool.{cases_Bool, cases_lt, lt-ltb, le-ltb}
-use Rattle.std.proofs.lemmas.Bool.Decides.{nat_tests}
 use Rattle.std.proofs.lemmas.List.Folds.{find_at}
 use Rattle.std.proofs.lemmas.Option.{same_Some, slice_get-get_or}
 use Rattle.compact_values.specs.declared.ids.ExGuid.{ExGuid}
@@ -15,7 +14,7 @@ use Rattle.file_nodes.specs.FileWalks.{as_file_object, stored_objects, find_stor
 use Rattle.file_nodes.specs.Links.{place_of, below_table, joined_from, answer_by, node_answer, answer_at, file_answer}
 use Rattle.file_nodes.specs.declared.fault.NodeFault.{NodeFault}
 use Rattle.file_nodes.specs.declared.fault.NodeFault.TheVariants.{Absent, TooHigh, NotANode, SizeDiffers, TooLarge, NoMemory}
-use Rattle.file_nodes.specs.declared.object_map.StoredObject.{StoredObject}
+use Rattle.file_nodes.specs.StoredObjects.{StoredObject}
 use Rattle.file_nodes.proofs.WalkLaws.{find_is, root_is}
 use Rattle.file_nodes.proofs.FileJoins.{node_joined, is_joined}
 use Rattle.file_nodes.proofs.Heights.{NotLarge, node_fault, walk_fault}
@@ -146,17 +145,12 @@ module _ (objects : List StoredObject) (root : ExGuid) where
 -- ---- the code's cases
 
 -- the object at a root's place has references
-pub has_more : (ids : List ExGuid) → (ids ≡ [] → ⊥) → eqb (length ids) 0 ≡ false
-has_more [] n = absurd (n refl)
-has_more (id ∷ ids) n = grind (arith, nat_tests)
-
 -- the answer at a root with references
 pub at_node : (objects : List StoredObject) (root : ExGuid) (place : ℕ) (top : StoredObject) → place ≡ place_of objects root → place < length objects → top ≡ get_or objects place top
-    → (top.references ≡ [] → ⊥) → node_answer objects place top ≡ file_answer objects root
+    → eqb (length top.references) 0 ≡ false → node_answer objects place top ≡ file_answer objects root
 at_node objects root place top e lt is more =
-    let some : eqb (length top.references) 0 ≡ false = has_more top.references more in
     let here : slice_get objects place ≡ Some top = slice_get-get_or objects place top lt ∙ ap Some (sym is) in
-    sym (ap (λ (b : Bool). cond b (Ok []) (node_answer objects place top)) some) ∙ ap (answer_at objects root place) (sym here) ∙ ap (λ (p : ℕ). answer_at objects root p (slice_get objects p)) e
+    sym (ap (λ (b : Bool). cond b (Ok []) (node_answer objects place top)) more) ∙ ap (answer_at objects root place) (sym here) ∙ ap (λ (p : ℕ). answer_at objects root p (slice_get objects p)) e
 
 -- the objects under another name
 pub of_list : (list objects : List StoredObject) (root : ExGuid) (r : Result (List ℕ) NodeFault) → list ≡ objects → IsOrNoMemory r (file_answer list root) → IsOrNoMemory r (file_answer objects root)

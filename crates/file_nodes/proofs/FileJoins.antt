@@ -15,7 +15,7 @@ use Rattle.file_nodes.specs.FileAnswers.{Agrees}
 use Rattle.file_nodes.specs.FileWalks.{as_file_object, stored_objects, find_stored, arrived, arrive, walk}
 use Rattle.file_nodes.specs.Links.{place_of, link_of, has_bytes, filled, file_at, file_from, below_table}
 use Rattle.file_nodes.specs.declared.fault.NodeFault.{NodeFault}
-use Rattle.file_nodes.specs.declared.object_map.StoredObject.{StoredObject}
+use Rattle.file_nodes.specs.StoredObjects.{StoredObject}
 use Rattle.file_nodes.proofs.WalkLaws.{find_is, below_is}
 use Rattle.file_nodes.proofs.Heights.{grows_to}
 use Rattle.file_nodes.proofs.WalkTables.{entry_is}

@@ -8,7 +8,7 @@ use Rattle.doc_model.specs.Nodes.{node_size}
 use Rattle.file_nodes.specs.FileWalks.{find_stored, together, total, arrived, arrive, judged, behind, walk}
 use Rattle.file_nodes.specs.declared.fault.NodeFault.{NodeFault}
 use Rattle.file_nodes.specs.declared.fault.NodeFault.TheVariants.{TooLarge}
-use Rattle.file_nodes.specs.declared.object_map.StoredObject.{StoredObject}
+use Rattle.file_nodes.specs.StoredObjects.{StoredObject}
 
 -- ---- lengths that are found
 

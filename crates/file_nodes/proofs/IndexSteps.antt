@@ -9,7 +9,7 @@ use Rattle.compact_values.specs.declared.ids.ExGuid.TheVariants.{Null, Id}
 use Rattle.compact_values.specs.SameIds.{same_id}
 use Rattle.file_nodes.specs.Index.{key_of, key_cmp, place_in}
 use Rattle.file_nodes.specs.Links.{place_of}
-use Rattle.file_nodes.specs.declared.object_map.StoredObject.{StoredObject}
+use Rattle.file_nodes.specs.StoredObjects.{StoredObject}
 
 -- two ids have the same key where they are the same
 same_key : (a b : ExGuid) → is_at (key_cmp (key_of a)) (key_of b) ≡ same_id a b

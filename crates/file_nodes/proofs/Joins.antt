@@ -1,15 +1,12 @@
 -- The file of an object by its place, level by level.
-use Rattle.std.proofs.Common.{◌≡◌, ◌≢◌, ℕ, zero, suc, ◌+◌, ◌-◌, ◌<◌, ◌≤◌, false, List, [], ◌∷◌, ◌++◌, length, drop, get_or, Option, Some, eqb, refl, sym, ap, ◌∙◌, append_assoc, add-one, drop-cons, arith}
+use Rattle.std.proofs.Common.{◌≡◌, ◌≢◌, ℕ, zero, suc, ◌+◌, ◌-◌, ◌<◌, ◌≤◌, Bool, true, false, List, [], ◌++◌, length, drop, get_or, Option, Some, eqb, refl, sym, ap, ◌∙◌, append_assoc, add-one, drop-cons, arith}
 use Rattle.std.specs.Prelude.{cond, slice_get}
 use Rattle.std.specs.List.{flat_map}
 use Rattle.std.proofs.Math.Seq.{drop-length}
-use Rattle.std.proofs.lemmas.Bool.{cond-false}
-use Rattle.std.proofs.lemmas.Bool.Decides.{nat_tests}
 use Rattle.std.proofs.lemmas.List.{append-nil}
 use Rattle.std.proofs.lemmas.Option.{slice_get_past, slice_get-get_or}
-use Rattle.compact_values.specs.declared.ids.ExGuid.{ExGuid}
 use Rattle.file_nodes.specs.Links.{file_at, file_from}
-use Rattle.file_nodes.specs.declared.object_map.StoredObject.{StoredObject}
+use Rattle.file_nodes.specs.StoredObjects.{StoredObject}
 
 pub nothing_from : (objects : List StoredObject) (children : List (List ℕ)) (levels place : ℕ) → levels ≡ 0 → file_from objects children levels place ≡ []
 unfolding file_from
@@ -63,11 +60,8 @@ module _ (objects : List StoredObject) (children : List (List ℕ)) (levels plac
           next_from objects children levels place some ∙ ap (λ (p : Option StoredObject). file_at deeper p (slice_get children place)) here
           ∙ ap (file_at deeper (Some o)) there
 
-      pub leaf_from : o.references ≡ [] → file_from objects children levels place ≡ o.bytes
-      leaf_from none = both ∙ ap (λ (ids : List ExGuid). cond (eqb (length ids) 0) o.bytes (flat_map deeper places)) none
+      pub leaf_from : eqb (length o.references) 0 ≡ true → file_from objects children levels place ≡ o.bytes
+      leaf_from none = both ∙ ap (λ (b : Bool). cond b o.bytes (flat_map deeper places)) none
 
-      pub node_from : (o.references ≡ [] → ⊥) → file_from objects children levels place ≡ flat_map deeper places
-      node_from more = both ∙ branch o.references more where
-        branch : (ids : List ExGuid) → (ids ≡ [] → ⊥) → cond (eqb (length ids) 0) o.bytes (flat_map deeper places) ≡ flat_map deeper places
-        branch [] n = absurd (n refl)
-        branch (id ∷ ids) n = let e : eqb (length (id ∷ ids)) 0 ≡ false = grind (arith, nat_tests) in cond-false (eqb (length (id ∷ ids)) 0) _ _ e
+      pub node_from : eqb (length o.references) 0 ≡ false → file_from objects children levels place ≡ flat_map deeper places
+      node_from more = both ∙ ap (λ (b : Bool). cond b o.bytes (flat_map deeper places)) more

@@ -1,5 +1,5 @@
 -- What says how long a file is says the length of what says the file.
-use Rattle.std.proofs.Common.{◌≡◌, ◌≢◌, ℕ, ◌<◌, Bool, true, false, List, [], ◌∷◌, length, map, get_or, Option, Some, None, Result, Ok, Err, inl, inr, eqb, refl, sym, ap, subst, ◌∙◌, arith, ⊎_elim}
+use Rattle.std.proofs.Common.{◌≡◌, ◌≢◌, ℕ, ◌<◌, Bool, true, false, List, [], length, get_or, Option, Some, None, Result, Ok, Err, inl, inr, eqb, refl, sym, ap, subst, ◌∙◌, arith}
 use Rattle.std.specs.Prelude.{cond, slice_get, nat_lt}
 use Rattle.std.specs.Option.{option_map}
 use Rattle.std.proofs.lemmas.Bool.{cases_Bool, cases_lt, lt-ltb, le-ltb}
@@ -8,13 +8,13 @@ use Rattle.std.proofs.lemmas.Option.{slice_get-get_or}
 use Rattle.compact_values.specs.declared.ids.ExGuid.{ExGuid}
 use Rattle.compact_values.specs.SameIds.{same_id}
 use Rattle.doc_model.specs.FileObjects.{node_file, file_below}
-use Rattle.file_nodes.specs.FileAnswers.{Agrees, stored_file, IsFileAnswer, IsLengthAnswer, IsOrNoMemory, LengthOfTheFile, length_said}
+use Rattle.file_nodes.specs.FileAnswers.{Agrees, stored_file, IsLengthAnswer, IsOrNoMemory, LengthOfTheFile, length_said}
 use Rattle.file_nodes.specs.FileWalks.{as_file_object, stored_objects, find_stored, arrived, walk, walk_from, walk_root, fault_of}
 use Rattle.file_nodes.specs.Links.{place_of, below_table, sized_by, node_length, length_at, length_answer}
 use Rattle.file_nodes.specs.declared.fault.NodeFault.{NodeFault}
 use Rattle.file_nodes.specs.declared.fault.NodeFault.TheVariants.{Absent, TooHigh, NotANode, SizeDiffers, TooLarge, NoMemory}
-use Rattle.file_nodes.specs.declared.object_map.StoredObject.{StoredObject}
-use Rattle.file_nodes.proofs.FileAnswerLaws.{fault_said, file_found, walk_found, walk_node, has_more, file_only, large_only, fault_only}
+use Rattle.file_nodes.specs.StoredObjects.{StoredObject}
+use Rattle.file_nodes.proofs.FileAnswerLaws.{fault_said, file_found, walk_found, walk_node, file_only, large_only, fault_only}
 use Rattle.file_nodes.proofs.Heights.{NotLarge, node_fault, walk_fault}
 use Rattle.file_nodes.proofs.WalkLaws.{root_is}
 use Rattle.file_nodes.proofs.WalkTables.{node_is}
@@ -66,10 +66,10 @@ module _ (objects : List StoredObject) (root : ExGuid) where
 
 -- the code's case of a root with references
 pub length-at-node : (objects : List StoredObject) (root : ExGuid) (place : ℕ) (top : StoredObject) → place ≡ place_of objects root → place < length objects → top ≡ get_or objects place top
-    → (top.references ≡ [] → ⊥) → node_length objects top ≡ length_answer objects root
+    → eqb (length top.references) 0 ≡ false → node_length objects top ≡ length_answer objects root
 length-at-node objects root place top e lt is more =
     let here : slice_get objects place ≡ Some top = slice_get-get_or objects place top lt ∙ ap Some (sym is) in
-    sym (ap (λ (b : Bool). cond b (Ok 0) (node_length objects top)) (has_more top.references more))
+    sym (ap (λ (b : Bool). cond b (Ok 0) (node_length objects top)) more)
     ∙ ap (length_at objects root) (sym here) ∙ ap (λ (p : ℕ). length_at objects root (slice_get objects p)) e
 
 -- ---- the law

@@ -11,7 +11,7 @@ use Rattle.doc_model.specs.Nodes.{node_size}
 use Rattle.file_nodes.specs.FileWalks.{as_file_object, stored_objects, find_stored, together, total, arrived, arrive, judged, behind, walk, walk_from, walk_root}
 use Rattle.file_nodes.specs.FileAnswers.{Agrees}
 use Rattle.file_nodes.specs.declared.fault.NodeFault.{NodeFault}
-use Rattle.file_nodes.specs.declared.object_map.StoredObject.{StoredObject}
+use Rattle.file_nodes.specs.StoredObjects.{StoredObject}
 
 -- ---- the first object with an id
 

@@ -11,7 +11,7 @@ use Rattle.doc_model.specs.Nodes.{node_size}
 use Rattle.file_nodes.specs.FileWalks.{find_stored, together, total, arrived, arrive, behind, walk}
 use Rattle.file_nodes.specs.Links.{place_of, said_by, link_of, total_by, node_by, walk_by}
 use Rattle.file_nodes.specs.declared.fault.NodeFault.{NodeFault}
-use Rattle.file_nodes.specs.declared.object_map.StoredObject.{StoredObject}
+use Rattle.file_nodes.specs.StoredObjects.{StoredObject}
 
 abbrev Walked : Type 0
 Walked = Result ℕ NodeFault

@@ -6,7 +6,7 @@ use Rattle.doc_model.specs.Limits.{most_file}
 use Rattle.file_nodes.specs.FileWalks.{stored_objects, first_fault}
 use Rattle.file_nodes.specs.declared.fault.NodeFault.{NodeFault}
 use Rattle.file_nodes.specs.declared.fault.NodeFault.TheVariants.{Absent, TooHigh, NotANode, SizeDiffers, TooLarge, NoMemory}
-use Rattle.file_nodes.specs.declared.object_map.StoredObject.{StoredObject}
+use Rattle.file_nodes.specs.StoredObjects.{StoredObject}
 
 -- the file that a root stands for, where it is defined
 abbrev pub stored_file : List StoredObject → ExGuid → Option (List ℕ)

@@ -7,7 +7,7 @@ use Rattle.doc_model.specs.Limits.{most_high}
 use Rattle.doc_model.specs.Nodes.{node_size}
 use Rattle.file_nodes.specs.declared.fault.NodeFault.{NodeFault}
 use Rattle.file_nodes.specs.declared.fault.NodeFault.TheVariants.{Absent, TooHigh, NotANode, SizeDiffers}
-use Rattle.file_nodes.specs.declared.object_map.StoredObject.{StoredObject}
+use Rattle.file_nodes.specs.StoredObjects.{StoredObject}
 
 -- the objects as a file is made of them: each has its bytes
 abbrev pub as_file_object : StoredObject → FileObject

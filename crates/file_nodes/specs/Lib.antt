@@ -1,3 +1,4 @@
+pub mod StoredObjects
 pub mod FileWalks
 pub mod Links
 pub mod Index

@@ -9,7 +9,7 @@ use Rattle.file_nodes.specs.declared.fault.NodeFault.{NodeFault}
 use Rattle.file_nodes.specs.declared.fault.NodeFault.TheVariants.{Absent, TooLarge}
 use Rattle.doc_model.specs.Limits.{most_file, most_high}
 use Rattle.file_nodes.specs.declared.links.Link.{Link}
-use Rattle.file_nodes.specs.declared.object_map.StoredObject.{StoredObject}
+use Rattle.file_nodes.specs.StoredObjects.{StoredObject}
 
 -- the place of the first object with this id, or the length of the list where there is none
 abbrev pub place_of : List StoredObject → ExGuid → ℕ

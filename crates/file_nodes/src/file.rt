@@ -25,7 +25,7 @@ use std::alloc::Global;
 /// after its references `NotANode` or `SizeDiffers`. `TooLarge` comes exactly where there is no such fault and the file has
 /// more than 16 MiB. The length of each object is worked out once for each height, so that an object to which many refer
 /// isn't walked many times.
-pub fn file_of(alloc: Global, objects: &ObjectMap, root: &ExGuid) -> Result<Octets, NodeFault>
+pub fn file_of(alloc: Global, objects: &ObjectMap<'_>, root: &ExGuid) -> Result<Octets, NodeFault>
     // Ok comes exactly with the file, where it is there and isn't too large.
     ensures file { (file : List ℕ) → Exactly result (Ok file) (IsFile objects.now root.now file) }
     ensures too_large { Exactly result (Err faults.TooLarge) (IsTooLarge objects.now root.now) }
@@ -39,7 +39,11 @@ pub fn file_of(alloc: Global, objects: &ObjectMap, root: &ExGuid) -> Result<Octe
 }
 
 // The same as one function of the objects, if memory allows it.
-fn stored_file(alloc: Global, objects: &[StoredObject], root: ExGuid) -> Result<Octets, NodeFault>
+fn stored_file(
+    alloc: Global,
+    objects: &[StoredObject<'_>],
+    root: ExGuid,
+) -> Result<Octets, NodeFault>
     ensures { IsOrNoMemory result (file_answer objects.now root) }
 {
     let Ok(index) = index_of(alloc, objects) else {
@@ -49,7 +53,7 @@ fn stored_file(alloc: Global, objects: &[StoredObject], root: ExGuid) -> Result<
     let Some(top) = objects.get(place) else {
         return Err(NodeFault::Absent { object: root });
     };
-    if top.references.is_empty() {
+    if top.references().is_empty() {
         return Ok(Octets::new(alloc));
     }
     let Ok(links) = links_of(alloc, objects, &index) else {
@@ -61,9 +65,9 @@ fn stored_file(alloc: Global, objects: &[StoredObject], root: ExGuid) -> Result<
 // The file of a root with references.
 fn file_of_node(
     alloc: Global,
-    objects: &[StoredObject],
+    objects: &[StoredObject<'_>],
     links: &[Link],
-    top: &StoredObject,
+    top: &StoredObject<'_>,
     place: usize,
 ) -> Result<Octets, NodeFault>
     requires top { slice_get objects.now place ≡ Some top.now }
@@ -89,7 +93,7 @@ fn file_of_node(
 // The file of the object at a place, joined.
 fn joined(
     alloc: Global,
-    objects: &[StoredObject],
+    objects: &[StoredObject<'_>],
     links: &[Link],
     walks: &[Walked],
     place: usize,

@@ -53,7 +53,7 @@ pub(crate) fn all_filled(
 /// Adds the file of the object at a place, from which so many levels go down.
 pub(crate) fn append_file(
     out: &mut Octets,
-    objects: &[StoredObject],
+    objects: &[StoredObject<'_>],
     children: &[Places],
     levels: usize,
     place: usize,
@@ -69,8 +69,8 @@ pub(crate) fn append_file(
     let Some(places) = children.get(place) else {
         return Ok(());
     };
-    if object.references.is_empty() {
-        return out.extend_from_slice(object.bytes.as_slice());
+    if object.references().is_empty() {
+        return out.extend_from_slice(object.bytes());
     }
     for child in places.as_slice() {
         append_file(out, objects, children, levels - 1, *child)?;

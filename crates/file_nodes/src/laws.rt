@@ -12,7 +12,7 @@ ghost use Rattle.file_nodes.specs.Chunking.{file_objects};
 ghost use Rattle.file_nodes.specs.Chunks.{chunked};
 ghost use Rattle.file_nodes.specs.FileAnswers.{Agrees, LengthOfTheFile};
 ghost use Rattle.file_nodes.specs.FileWalks.{stored_objects, walk_root};
-ghost use Rattle.file_nodes.specs.declared.object_map.StoredObject.{StoredObject};
+ghost use Rattle.file_nodes.specs.StoredObjects.{StoredObject};
 
 /// The walk from a root has no fault exactly where the file of the root is defined, and then it gives the file's length.
 pub fn no_fault_where_defined()

@@ -14,14 +14,18 @@ use doc_model::limits::MOST_FILE;
 use std::alloc::Global;
 
 /// How long the file of a root is, where `file_of` answers it, and the same fault where it doesn't. Nothing is joined for it.
-pub fn file_length(alloc: Global, objects: &ObjectMap, root: &ExGuid) -> Result<u64, NodeFault>
+pub fn file_length(alloc: Global, objects: &ObjectMap<'_>, root: &ExGuid) -> Result<u64, NodeFault>
     ensures { IsLengthAnswer objects.now root.now result }
 {
     stored_length(alloc, objects.as_slice(), *root)
 }
 
 // The same as one function of the objects, if memory allows it.
-fn stored_length(alloc: Global, objects: &[StoredObject], root: ExGuid) -> Result<u64, NodeFault>
+fn stored_length(
+    alloc: Global,
+    objects: &[StoredObject<'_>],
+    root: ExGuid,
+) -> Result<u64, NodeFault>
     ensures { IsOrNoMemory result (length_answer objects.now root) }
 {
     let Ok(index) = index_of(alloc, objects) else {
@@ -31,7 +35,7 @@ fn stored_length(alloc: Global, objects: &[StoredObject], root: ExGuid) -> Resul
     let Some(top) = objects.get(place) else {
         return Err(NodeFault::Absent { object: root });
     };
-    if top.references.is_empty() {
+    if top.references().is_empty() {
         return Ok(0);
     }
     let Ok(links) = links_of(alloc, objects, &index) else {
@@ -43,9 +47,9 @@ fn stored_length(alloc: Global, objects: &[StoredObject], root: ExGuid) -> Resul
 // The length of the file of a root with references.
 fn length_of_node(
     alloc: Global,
-    objects: &[StoredObject],
+    objects: &[StoredObject<'_>],
     links: &[Link],
-    top: &StoredObject,
+    top: &StoredObject<'_>,
     place: usize,
 ) -> Result<u64, NodeFault>
     requires top { slice_get objects.now place ≡ Some top.now }

@@ -32,4 +32,4 @@ pub use chunking::{Chunked, chunk};
 pub use fault::NodeFault;
 pub use file::file_of;
 pub use lengths::file_length;
-pub use object_map::{ObjectMap, StoredObject};
+pub use object_map::ObjectMap;

@@ -18,27 +18,27 @@ pub(crate) struct Link {
 }
 
 // The data size that an object with references says.
-fn said_by(alloc: Global, object: &StoredObject) -> Result<Option<u64>, NoMemory>
+fn said_by(alloc: Global, object: &StoredObject<'_>) -> Result<Option<u64>, NoMemory>
     ensures { IfOk result (λ said. said ≡ said_by object.now) }
 {
-    if object.references.is_empty() {
+    if object.references().is_empty() {
         Ok(None)
     } else {
-        node_size(alloc, object.bytes.as_slice())
+        node_size(alloc, object.bytes())
     }
 }
 
 // What an object among these refers to.
 fn link_of(
     alloc: Global,
-    objects: &[StoredObject],
+    objects: &[StoredObject<'_>],
     index: &Index,
-    object: &StoredObject,
+    object: &StoredObject<'_>,
 ) -> Result<Link, NoMemory>
     requires { IsIndex objects.now index.now }
     ensures { IfOk result (λ link. link ≡ link_of objects.now object.now) }
 {
-    let places = places_in(alloc, index, objects.len(), object.references.as_slice())?;
+    let places = places_in(alloc, index, objects.len(), object.references())?;
     let said = said_by(alloc, object)?;
     Ok(Link { places, said })
 }
@@ -46,7 +46,7 @@ fn link_of(
 /// What each object refers to.
 pub(crate) fn links_of(
     alloc: Global,
-    objects: &[StoredObject],
+    objects: &[StoredObject<'_>],
     index: &Index,
 ) -> Result<Seq<Link>, NoMemory>
     requires { IsIndex objects.now index.now }

@@ -1,58 +1,81 @@
 ghost use Rattle.std.specs.Prelude.{◌≡◌, [], ◌∷◌, ◌++◌, OnOk, OnErr};
-ghost use Rattle.file_nodes.specs.declared.object_map.StoredObject.{StoredObject};
 
-use compact_values::{Copied, ExGuid, Ids, NoMemory, Octets};
+use compact_values::{ExGuid, Ids, NoMemory};
 use std::alloc::Global;
 use std::marker::Model;
 
-/// An object as a file is made of it: its id, the objects that it refers to in order, and its own bytes.
+/// An object as a file is made of it, borrowed: its id, the objects that it refers to in order, and its own bytes.
 #[derive(Debug, Drop)]
-pub struct StoredObject {
-    pub id: ExGuid,
-    pub references: Ids,
-    pub bytes: Octets,
+pub(crate) struct StoredObject<'a> {
+    id: ExGuid,
+    references: &'a Ids,
+    bytes: &'a [u8],
+}
+
+impl<'a> Model for StoredObject<'a> {
+    ghost use Rattle.file_nodes.specs.StoredObjects as plain;
+
+    ghost Value = { plain.StoredObject };
+
+    ghost view = { λ o. record { id = o.id; references = o.references.now; bytes = o.bytes.now } };
+}
+
+impl<'a> StoredObject<'a> {
+    pub(crate) fn id(&self) -> ExGuid
+        ensures { result ≡ self.now.id }
+    {
+        self.id
+    }
+
+    pub(crate) fn references(&self) -> &[ExGuid]
+        ensures { result.now ≡ self.now.references }
+    {
+        self.references.as_slice()
+    }
+
+    pub(crate) fn bytes(&self) -> &[u8]
+        ensures { result.now ≡ self.now.bytes }
+    {
+        self.bytes
+    }
 }
 
 /// The objects of a file, which contracts see as a list. The first object with an id counts.
+///
+/// Nothing is copied: the map borrows the references and the bytes of each object from where they stand.
 #[derive(Debug, Drop)]
-pub struct ObjectMap {
-    alloc: Global,
-    objects: Vec<StoredObject>,
+pub struct ObjectMap<'a> {
+    objects: Vec<StoredObject<'a>>,
 }
 
-impl Model for ObjectMap {
+impl<'a> Model for ObjectMap<'a> {
     ghost use Rattle.std.specs.Prelude.{List};
-    ghost use Rattle.file_nodes.specs.declared.object_map.StoredObject.{StoredObject};
+    ghost use Rattle.file_nodes.specs.StoredObjects as plain;
 
-    ghost Value = { List StoredObject };
+    ghost Value = { List plain.StoredObject };
 
     ghost view = { λ m. m.objects.items };
 }
 
-impl ObjectMap {
+impl<'a> ObjectMap<'a> {
     /// No objects.
-    pub fn new(alloc: Global) -> ObjectMap
+    pub fn new(alloc: Global) -> ObjectMap<'a>
         ensures { result ≡ [] }
     {
         ObjectMap {
-            alloc,
             objects: Vec::new(alloc),
         }
     }
 
-    /// Adds a copy of an object at the end. Without memory nothing is added.
-    pub fn add(&mut self, id: ExGuid, references: &Ids, bytes: &[u8]) -> Result<(), NoMemory>
+    /// Adds an object at the end. Without memory nothing is added.
+    pub fn add(&mut self, id: ExGuid, references: &'a Ids, bytes: &'a [u8]) -> Result<(), NoMemory>
         ensures ok { OnOk result (self.new ≡ self.old ++ record { id = id; references = references.now; bytes = bytes.now } ∷ []) }
         ensures err { OnErr result (self.new ≡ self.old) }
     {
-        let alloc = self.alloc;
-        let references = references.copied(alloc)?;
-        let mut copy = Octets::new(alloc);
-        copy.extend_from_slice(bytes)?;
         let object = StoredObject {
             id,
             references,
-            bytes: copy,
+            bytes,
         };
         match self.objects.push(object) {
             Ok(()) => Ok(()),
@@ -60,7 +83,7 @@ impl ObjectMap {
         }
     }
 
-    pub(crate) fn as_slice(&self) -> &[StoredObject]
+    pub(crate) fn as_slice(&self) -> &[StoredObject<'a>]
         ensures { result.now ≡ self.now }
     {
         self.objects.as_slice()

@@ -23,14 +23,14 @@ fn key_of(id: ExGuid) -> (u128, u64)
 }
 
 /// An index of the first object with each id.
-pub(crate) fn index_of(alloc: Global, objects: &[StoredObject]) -> Result<Index, NoMemory>
+pub(crate) fn index_of(alloc: Global, objects: &[StoredObject<'_>]) -> Result<Index, NoMemory>
     ensures { IfOk result (λ index. IsIndex objects.now index) }
 {
     let mut index = BTreeMap::new(alloc);
     let mut left = objects.len();
     while left > 0 {
         left -= 1;
-        let Ok(_) = index.insert(key_of(objects[left].id), left) else {
+        let Ok(_) = index.insert(key_of(objects[left].id()), left) else {
             return Err(NoMemory);
         };
     }

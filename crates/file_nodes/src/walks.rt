@@ -40,11 +40,13 @@ fn total_by(table: &[Walked], ids: &[ExGuid], places: &[usize]) -> Result<u128, 
 }
 
 // An object with references is a node that says the length that was found.
-fn judged(object: &StoredObject, said: Option<u64>, found: u128) -> Walked
+fn judged(object: &StoredObject<'_>, said: Option<u64>, found: u128) -> Walked
     ensures { result ≡ judged object.now said found }
 {
     match said {
-        None => Err(NodeFault::NotANode { object: object.id }),
+        None => Err(NodeFault::NotANode {
+            object: object.id(),
+        }),
         Some(said) => {
             if said as u128 == found {
                 Ok(said)
@@ -56,21 +58,21 @@ fn judged(object: &StoredObject, said: Option<u64>, found: u128) -> Walked
 }
 
 /// The walk of a node, by the walks of one level less.
-pub(crate) fn node_by(table: &[Walked], object: &StoredObject, link: &Link) -> Walked
+pub(crate) fn node_by(table: &[Walked], object: &StoredObject<'_>, link: &Link) -> Walked
     requires { length link.now.places ≡ length object.now.references }
     ensures { result ≡ node_by table.now object.now link.now }
 {
-    let found = total_by(table, object.references.as_slice(), link.places.as_slice())?;
+    let found = total_by(table, object.references(), link.places.as_slice())?;
     judged(object, link.said, found)
 }
 
 // The walk of an object, by the walks of one level less.
-fn walk_by(table: &[Walked], object: &StoredObject, link: &Link) -> Walked
+fn walk_by(table: &[Walked], object: &StoredObject<'_>, link: &Link) -> Walked
     requires { length link.now.places ≡ length object.now.references }
     ensures { result ≡ walk_by table.now object.now link.now }
 {
-    if object.references.is_empty() {
-        Ok(object.bytes.len() as u64)
+    if object.references().is_empty() {
+        Ok(object.bytes().len() as u64)
     } else {
         node_by(table, object, link)
     }
@@ -79,7 +81,7 @@ fn walk_by(table: &[Walked], object: &StoredObject, link: &Link) -> Walked
 // The walks of all objects, by those of one level less.
 fn next_walks(
     alloc: Global,
-    objects: &[StoredObject],
+    objects: &[StoredObject<'_>],
     links: &[Link],
     table: &[Walked],
 ) -> Result<Seq<Walked>, NoMemory>
@@ -95,7 +97,7 @@ fn next_walks(
 
 // The walks where no object may be met.
 #[tactic(auto, unfolding(crate::specs::FileWalks::walk))]
-fn no_walks(alloc: Global, objects: &[StoredObject]) -> Result<Seq<Walked>, NoMemory>
+fn no_walks(alloc: Global, objects: &[StoredObject<'_>]) -> Result<Seq<Walked>, NoMemory>
     ensures { IfOk result (λ walks. walks ≡ map (walk objects.now 0) objects.now) }
 {
     let mut walks = Seq::new(alloc);
@@ -108,7 +110,7 @@ fn no_walks(alloc: Global, objects: &[StoredObject]) -> Result<Seq<Walked>, NoMe
 /// The walks of all objects as references of a root.
 pub(crate) fn walks_below(
     alloc: Global,
-    objects: &[StoredObject],
+    objects: &[StoredObject<'_>],
     links: &[Link],
 ) -> Result<Seq<Walked>, NoMemory>
     requires { links.now ≡ map (link_of objects.now) objects.now }

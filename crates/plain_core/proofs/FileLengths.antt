@@ -13,7 +13,7 @@ use Rattle.file_nodes.specs.FileAnswers.{Agrees, IsLengthAnswer, stored_file}
 use Rattle.file_nodes.specs.FileWalks.{fault_of, first_fault, walk_root}
 use Rattle.file_nodes.specs.declared.fault.NodeFault.{NodeFault}
 use Rattle.file_nodes.specs.declared.fault.NodeFault.TheVariants as faults
-use Rattle.file_nodes.specs.declared.object_map.StoredObject.{StoredObject}
+use Rattle.file_nodes.specs.StoredObjects.{StoredObject}
 use Rattle.file_nodes.proofs.WalkLaws.{root_is}
 use Rattle.plain_core.specs.Filing.{groups_named, objects_in, file_with_bytes}
 use Rattle.plain_core.specs.Measuring.{length_of_file, length_answered}

@@ -7,10 +7,11 @@ use Rattle.compact_values.specs.declared.ids.ExGuid.{ExGuid}
 use Rattle.doc_model.specs.declared.element.Element.{Element}
 use Rattle.doc_model.specs.Files.{root_object}
 use Rattle.doc_model.specs.Finding.{Manifest}
+use Rattle.doc_model.specs.Limits.{most_file}
 use Rattle.file_nodes.specs.FileAnswers.{Exactly, IsFile, IsOrNoMemory, IsTooLarge, stored_file}
 use Rattle.file_nodes.specs.declared.fault.NodeFault.{NodeFault}
 use Rattle.file_nodes.specs.declared.fault.NodeFault.TheVariants as faults
-use Rattle.file_nodes.specs.declared.object_map.StoredObject.{StoredObject}
+use Rattle.file_nodes.specs.StoredObjects.{StoredObject}
 use Rattle.plain_core.specs.Filing.{IsFiled, without_file, groups_named, objects_in, objects_with_bytes, file_with_bytes}
 use Rattle.plain_core.specs.declared.file.Filed.{Filed}
 use Rattle.plain_core.proofs.FiledOnce.{filed-once}

@@ -8,7 +8,7 @@ use Rattle.doc_model.specs.Finding.{Manifest}
 use Rattle.doc_model.specs.Limits.{most_file}
 use Rattle.doc_model.specs.Reached.{each_once}
 use Rattle.file_nodes.specs.FileAnswers.{stored_file}
-use Rattle.file_nodes.specs.declared.object_map.StoredObject.{StoredObject}
+use Rattle.file_nodes.specs.StoredObjects.{StoredObject}
 use Rattle.file_nodes.specs.declared.fault.NodeFault.{NodeFault}
 use Rattle.file_nodes.specs.declared.fault.NodeFault.TheVariants as faults
 use Rattle.compact_values.specs.declared.fault.NoMemory.{NoMemory}

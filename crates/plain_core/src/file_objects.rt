@@ -13,9 +13,6 @@ use doc_model::{Content, Object};
 use file_nodes::ObjectMap;
 use std::alloc::Global;
 
-/// The most bytes of objects that are copied for one file: as many as all elements of a document may weigh.
-const MOST_COPIED: usize = 128 * 1_048_576;
-
 /// The object of the first root along these revisions.
 pub fn root_object(manifests: &[Manifest<'_>]) -> Option<ExGuid>
     ensures { result ≡ root_object (map seen_manifest manifests.now) }
@@ -40,31 +37,29 @@ fn groups_named(alloc: Global, manifests: &[Manifest<'_>]) -> Result<Once, NoMem
 }
 
 // The objects of these groups, in order.
-fn objects_in(
+fn objects_in<'a>(
     alloc: Global,
-    catalog: &Catalog<'_>,
+    catalog: &'a Catalog<'_>,
     groups: &[ExGuid],
-) -> Result<ObjectMap, NoMemory>
+) -> Result<ObjectMap<'a>, NoMemory>
     ensures { IfOk result (λ all. all ≡ objects_in (listed catalog.now) groups.now) }
 {
     let mut all = ObjectMap::new(alloc);
-    let mut left = MOST_COPIED;
     for group in groups {
         match catalog.group_at(*group) {
             None => {}
-            Some(objects) => add_objects(catalog, objects.as_slice(), &mut all, &mut left)?,
+            Some(objects) => add_objects(catalog, objects.as_slice(), &mut all)?,
         }
     }
     Ok(all)
 }
 
-/// The objects of these revisions. A group that several of them name is copied once. Objects that name one blob have a copy
-/// each, and more than 128 MiB of copies are answered as want of memory.
-pub fn objects_of(
+/// The objects of these revisions, borrowed. The objects of a group that several of them name are there once.
+pub fn objects_of<'a>(
     alloc: Global,
-    catalog: &Catalog<'_>,
+    catalog: &'a Catalog<'_>,
     manifests: &[Manifest<'_>],
-) -> Result<ObjectMap, NoMemory>
+) -> Result<ObjectMap<'a>, NoMemory>
     ensures { IfOk result (λ all. all ≡ objects_in (listed catalog.now) (groups_named (map seen_manifest manifests.now))) }
 {
     let groups = groups_named(alloc, manifests)?;
@@ -72,39 +67,31 @@ pub fn objects_of(
     Ok(objects)
 }
 
-// Adds these objects, where so many bytes may still be copied.
-fn add_objects(
-    catalog: &Catalog<'_>,
-    objects: &[Object],
-    all: &mut ObjectMap,
-    left: &mut usize,
+// Adds these objects.
+fn add_objects<'a>(
+    catalog: &'a Catalog<'_>,
+    objects: &'a [Object],
+    all: &mut ObjectMap<'a>,
 ) -> Result<(), NoMemory>
     ensures { OnOk result (all.new ≡ all.old ++ map (stored (listed catalog.now)) objects.now) }
 {
     for object in objects {
-        add_object(catalog, object, all, left)?;
+        add_object(catalog, object, all)?;
     }
     Ok(())
 }
 
 // Adds an object with its own bytes, none where its blob isn't there.
-fn add_object(
-    catalog: &Catalog<'_>,
-    object: &Object,
-    all: &mut ObjectMap,
-    left: &mut usize,
+fn add_object<'a>(
+    catalog: &'a Catalog<'_>,
+    object: &'a Object,
+    all: &mut ObjectMap<'a>,
 ) -> Result<(), NoMemory>
     ensures { OnOk result (all.new ≡ all.old ++ stored (listed catalog.now) object.now ∷ []) }
 {
     match own_bytes(catalog, &object.content) {
         None => all.add(object.id, &object.references, &[]),
-        Some(bytes) => {
-            if bytes.len() > *left {
-                return Err(NoMemory);
-            }
-            *left -= bytes.len();
-            all.add(object.id, &object.references, bytes.as_slice())
-        }
+        Some(bytes) => all.add(object.id, &object.references, bytes.as_slice()),
     }
 }
 

@@ -13,6 +13,7 @@ ghost use Rattle.plain_core.specs.Weighing.{all_few};
 ghost use Rattle.plain_core.specs.Wholes.{is_whole};
 
 use crate::catalog::Catalog;
+use crate::naming::names;
 use crate::plain::{Change, PlainCore};
 use crate::put::too_much_added;
 use crate::reaching::is_heavy;
@@ -80,7 +81,8 @@ fn limit_refusal(alloc: Global, catalog: &Catalog<'_>, id: ExGuid) -> Result<Opt
     if too_much_added(catalog) {
         return Ok(Some(Code::StorageLimit));
     }
-    if is_heavy(alloc, catalog, id)? {
+    let all = names(alloc, catalog, id)?;
+    if is_heavy(alloc, catalog, all.as_slice())? {
         Ok(Some(Code::StorageLimit))
     } else {
         Ok(None)

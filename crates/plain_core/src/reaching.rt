@@ -2,32 +2,24 @@
 ghost use Rattle.std.specs.Prelude.{◌≡◌, ◌+◌, ◌<◌, true, nat_lt, map, IfOk};
 ghost use Rattle.std.specs.Option.{MatchOption};
 ghost use Rattle.doc_model.specs.Limits.{most_reached_weight};
-ghost use Rattle.doc_model.specs.Reached.{reached_from};
 ghost use Rattle.doc_model.specs.Weights.{weight_of};
 ghost use Rattle.plain_core.specs.Cataloging.{listed};
 ghost use Rattle.plain_core.specs.Reaching.{among};
 ghost use Rattle.plain_core.specs.Weighing.{all_few};
 
 use crate::catalog::Catalog;
-use crate::naming::names;
 use compact_values::{ExGuid, IdIndex, NoMemory};
 use doc_model::limits::MOST_REACHED_WEIGHT;
 use doc_model::{Element, Name, weight};
 use std::alloc::Global;
 
-/// Whether the elements that are reached from the index weigh more than 24 MiB.
-pub fn is_heavy(alloc: Global, catalog: &Catalog<'_>, index: ExGuid) -> Result<bool, NoMemory>
+/// Whether the elements that are named weigh more than 24 MiB.
+pub fn is_heavy(alloc: Global, catalog: &Catalog<'_>, named: &[Name]) -> Result<bool, NoMemory>
     requires { all_few (listed catalog.now) ≡ true }
-    ensures { IfOk result (λ heavy. heavy ≡ nat_lt most_reached_weight (weight_of (reached_from (listed catalog.now) index))) }
+    ensures { IfOk result (λ heavy. heavy ≡ nat_lt most_reached_weight (weight_of (among (map (λ n. n.id) named.now) (listed catalog.now)))) }
 {
-    let all = names(alloc, catalog, index)?;
-    let named = ids_of(alloc, all.as_slice())?;
-    Ok(weigh_more(
-        &named,
-        catalog.added(),
-        catalog.fresh(),
-        MOST_REACHED_WEIGHT,
-    ))
+    let ids = ids_of(alloc, named)?;
+    Ok(weigh_more(&ids, catalog.added(), catalog.fresh(), MOST_REACHED_WEIGHT))
 }
 
 // The ids of these names.

@@ -1,4 +1,5 @@
-use Rattle.std.proofs.Common.{ℕ, List, Result, subst, ◌∙◌}
+use Rattle.std.proofs.Common.{ℕ, List, length, Result, eqb, sym, ap, subst, ◌∙◌}
+use Rattle.compact_values.specs.declared.ids.ExGuid.{ExGuid}
 use Rattle.file_nodes.specs.FileAnswers.{IsOrNoMemory}
 use Rattle.file_nodes.specs.declared.fault.NodeFault.{NodeFault}
 use Rattle.file_nodes.proofs.FileAnswerLaws.{at_node}
@@ -7,5 +8,5 @@ use Rattle.file_nodes.proofs.file.stored_file.Goals as goal
 pub returns : goal.returns
 returns c =
     let node = at_node c.args.objects.now c.args.root c.place_in-place.result c.in-Some.top.now (c.place_in-place.ensures ∙ c.in-Ok.ensures c.args.root) c.in-Some.ensures.lookup.3.0 c.in-Some.ensures.lookup.1
-    (λ none. let h = c.if-is_empty.ensures.1 none in cc) in
+    (sym (c.if-is_empty.ensures ∙ ap (λ (ids : List ExGuid). eqb (length ids) 0) c.references.ensures)) in
     subst (λ (a : Result (List ℕ) NodeFault). IsOrNoMemory c.file_of_node.result a) node c.file_of_node.ensures

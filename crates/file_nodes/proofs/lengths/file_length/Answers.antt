@@ -1,6 +1,6 @@
 use Rattle.std.proofs.Common.{List, subst}
 use Rattle.file_nodes.specs.FileAnswers.{IsLengthAnswer}
-use Rattle.file_nodes.specs.declared.object_map.StoredObject.{StoredObject}
+use Rattle.file_nodes.specs.StoredObjects.{StoredObject}
 use Rattle.file_nodes.proofs.LengthLaws.{length-of}
 use Rattle.file_nodes.proofs.lengths.file_length.Goals as goal
 

@@ -20,10 +20,8 @@ returns c =
     let added = listed c.args.catalog.now in
     let front = c.args.catalog.now.added.now in
     let back = c.args.catalog.now.fresh in
-    let ids : c.in_ok-named.named ≡ map (λ (n : Name). n.id) (names added c.args.index) =
-    c.in_ok-named.ensures ∙ ap (map (λ (n : Name). n.id)) (c.as_slice.ensures ∙ c.in_ok-all.ensures) in
     c.weigh_more.ensures
-    ∙ ap (λ es. nat_lt most_reached_weight (weight_of (among c.in_ok-named.named es) + weight_of (among c.in_ok-named.named c.fresh.result.now))) c.added.ensures
-    ∙ ap (λ es. nat_lt most_reached_weight (weight_of (among c.in_ok-named.named front) + weight_of (among c.in_ok-named.named es))) c.fresh.ensures
-    ∙ ap (λ n. nat_lt most_reached_weight n) (weight-both c.in_ok-named.named front back)
-    ∙ ap (λ is. nat_lt most_reached_weight (weight_of (among is added))) ids
+    ∙ ap (λ es. nat_lt most_reached_weight (weight_of (among c.in_ok-ids.ids es) + weight_of (among c.in_ok-ids.ids c.fresh.result.now))) c.added.ensures
+    ∙ ap (λ es. nat_lt most_reached_weight (weight_of (among c.in_ok-ids.ids front) + weight_of (among c.in_ok-ids.ids es))) c.fresh.ensures
+    ∙ ap (λ n. nat_lt most_reached_weight n) (weight-both c.in_ok-ids.ids front back)
+    ∙ ap (λ is. nat_lt most_reached_weight (weight_of (among is added))) c.in_ok-ids.ensures
