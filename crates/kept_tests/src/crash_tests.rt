@@ -27,7 +27,7 @@ fn run(alloc: Global, fail: &[u64], changes: usize) -> Option<Left> {
     for _ in 0..changes {
         last_answered = is_answered(submit(alloc, &mut doc, 1, &draw));
         if last_answered {
-            acknowledged += 1;
+            acknowledged = acknowledged.saturating_add(1);
         }
     }
     Some(Left {
@@ -94,13 +94,13 @@ fn keeps(alloc: Global, fail: &[u64]) -> bool {
                 &after.disk,
                 calls,
                 before.acknowledged,
-                before.acknowledged + 1,
+                before.acknowledged.saturating_add(1),
             ) {
                 return false;
             }
         }
         let spare = if after.last_answered { 0 } else { 1 };
-        let most = after.acknowledged + spare;
+        let most = after.acknowledged.saturating_add(spare);
         if !each_leaves(alloc, &after.disk, last, after.acknowledged, most) {
             return false;
         }

@@ -119,7 +119,7 @@ fn a_journal_that_is_no_document_is_told_by_its_place(rt: HostRuntime) -> Result
         }
     }
     let image = journal(alloc, &[draw.as_slice(), draw.as_slice()]).ok_or("journal")?;
-    for cut in 25..image.len() - 1 {
+    for cut in 25..image.len().saturating_sub(1) {
         assert!(rt;
             reopen(alloc, &image.as_slice()[..cut]).is_err(),
             "cut at {cut}"
