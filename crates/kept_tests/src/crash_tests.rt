@@ -22,7 +22,7 @@ struct Left {
 fn run(alloc: Global, fail: &[u64], changes: usize) -> Option<Left> {
     let mut doc = create(alloc, fail)?;
     let draw = call(alloc, 7, Sub::Draw { count: 1 })?;
-    let mut acknowledged = 0;
+    let mut acknowledged = 0_u64;
     let mut last_answered = true;
     for _ in 0..changes {
         last_answered = is_answered(submit(alloc, &mut doc, 1, &draw));
@@ -99,7 +99,7 @@ fn keeps(alloc: Global, fail: &[u64]) -> bool {
                 return false;
             }
         }
-        let spare = if after.last_answered { 0 } else { 1 };
+        let spare = if after.last_answered { 0_u64 } else { 1 };
         let most = after.acknowledged.saturating_add(spare);
         if !each_leaves(alloc, &after.disk, last, after.acknowledged, most) {
             return false;
