@@ -70,6 +70,13 @@ impl IdIndex {
         self.place(id).is_some()
     }
 
+    /// The ids.
+    pub fn as_slice(&self) -> &[ExGuid]
+        ensures { result.now ≡ self.now }
+    {
+        self.ids.as_slice()
+    }
+
     /// Adds the id at the end, or leaves the list as it was.
     pub fn push(&mut self, id: ExGuid) -> Result<(), NoMemory>
         ensures ok { OnOk result (self.new ≡ self.old ++ id ∷ []) }

@@ -22,4 +22,4 @@ pub use answer::{Media, write_answer};
 pub use body::{BODY_LIMIT, BodyReader, Fed, Framing, LINE_LIMIT, Place};
 pub use head::{HEAD_LIMIT, HeadEnd, head_end};
 pub use request::{Head, read_head};
-pub use target::Route;
+pub use target::{Route, place_of};

@@ -103,7 +103,9 @@ fn is_named(text: &[u8], name: &[u8]) -> bool
     is_name(name) && names_it(text, name)
 }
 
-fn place_of(text: &[u8], names: &Names) -> Option<usize>
+/// The place in `names` of the document that a path segment names, percent-encoded or not (RFC 3986, 2.1); None where
+/// no name is it.
+pub fn place_of(text: &[u8], names: &Names) -> Option<usize>
     ensures { result ≡ place_of text.now names.now }
 {
     names

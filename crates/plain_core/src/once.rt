@@ -4,26 +4,23 @@ ghost use Rattle.std.specs.List.{list_any};
 ghost use Rattle.compact_values.specs.SameIds.{same_id};
 ghost use Rattle.doc_model.specs.Finding.{with_new};
 
-use compact_values::{ExGuid, IdIndex, Ids, NoMemory, Seq};
+use compact_values::{ExGuid, IdIndex, NoMemory};
 use std::alloc::Global;
 use std::marker::Model;
 
 /// A list of ids, in the order in which they came. What comes again isn't looked for in the list.
 #[derive(Drop)]
 pub struct Once {
-    ids: Ids,
-    places: IdIndex,
+    ids: IdIndex,
 }
 
 impl Model for Once {
-    ghost use Rattle.std.specs.Prelude.{◌≡◌, List};
+    ghost use Rattle.std.specs.Prelude.{List};
     ghost use Rattle.compact_values.specs.declared.ids.ExGuid.{ExGuid};
 
     ghost Value = { List ExGuid };
 
     ghost view = { λ s. s.ids };
-
-    ghost invariant = { λ s. s.places ≡ s.ids };
 }
 
 impl Once {
@@ -32,8 +29,7 @@ impl Once {
         ensures { result ≡ [] }
     {
         Once {
-            ids: Seq::new(alloc),
-            places: IdIndex::new(alloc),
+            ids: IdIndex::new(alloc),
         }
     }
 
@@ -41,7 +37,7 @@ impl Once {
     pub fn contains(&self, id: ExGuid) -> bool
         ensures { result ≡ list_any (same_id id) self.now }
     {
-        self.places.contains(id)
+        self.ids.contains(id)
     }
 
     /// The ids.
@@ -55,15 +51,7 @@ impl Once {
     pub fn push(&mut self, id: ExGuid) -> Result<(), NoMemory>
         ensures { OnOk result (self.new ≡ self.old ++ id ∷ []) }
     {
-        let before = self.ids.len();
-        self.ids.push(id)?;
-        match self.places.push(id) {
-            Ok(()) => Ok(()),
-            Err(NoMemory) => {
-                self.ids.truncate(before);
-                Err(NoMemory)
-            }
-        }
+        self.ids.push(id)
     }
 
     /// Adds the id at the end, unless it is there.
