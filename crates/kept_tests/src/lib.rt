@@ -6,6 +6,10 @@
 #[cfg(test)]
 mod crash_tests;
 #[cfg(test)]
+mod generated_calls;
+#[cfg(test)]
 mod opening_tests;
+#[cfg(test)]
+mod restart_tests;
 #[cfg(test)]
 mod test_documents;

@@ -22,9 +22,9 @@ pub const G: Guid = Guid {
 };
 
 /// The bytes that are written on a disk in all, and its calls.
-const ROOM: usize = 4096;
+const ROOM: usize = 1_048_576;
 
-const CALLS: usize = 64;
+const CALLS: usize = 2048;
 
 /// A new document, on a disk whose calls with these numbers fail. None where one of them is a call of its creation.
 pub fn create(alloc: Global, fail: &[u64]) -> Option<Kept> {
