@@ -8,6 +8,8 @@ mod crash_tests;
 #[cfg(test)]
 mod generated_calls;
 #[cfg(test)]
+mod large_tests;
+#[cfg(test)]
 mod opening_tests;
 #[cfg(test)]
 mod restart_tests;
