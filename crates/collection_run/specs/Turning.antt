@@ -14,8 +14,8 @@ use Rattle.envelope_read.specs.declared.outcome.Outcome.TheVariants.{Cell}
 use Rattle.dependency_runner.specs.declared.deciding.Decision.{Decision}
 use Rattle.dependency_runner.specs.declared.deciding.Decision.TheVariants.{Run}
 use Rattle.collection_run.specs.declared.cell.CellWork.{CellWork}
-use Rattle.collection_run.specs.declared.progress.Begun.{Begun}
-use Rattle.collection_run.specs.declared.progress.Begun.TheVariants.{Ended, Calls, Opens}
+use Rattle.collection_run.specs.declared.beginning.Begun.{Begun}
+use Rattle.collection_run.specs.declared.beginning.Begun.TheVariants.{Ended, Calls, Opens}
 use Rattle.collection_run.specs.declared.progress.Progress.{Progress}
 use Rattle.collection_run.specs.Asking.{word_of}
 use Rattle.collection_run.specs.Collections.{Caller, call_of, run_sub}

@@ -70,10 +70,11 @@ pub(crate) fn next_in_cell(
 pub(crate) fn take_back(cell: &mut CellWork, call: Option<Call>)
     ensures { cell.new ≡ whole call cell.old }
 {
-    if let Some(call) = call {
-        if let Sub::Put { put } = call.sub {
-            cell.request.elements = put.elements;
-        }
+    let Some(Call { sub, .. }) = call else {
+        return;
+    };
+    if let Sub::Put { put } = sub {
+        cell.request.elements = put.elements;
     }
 }
 
