@@ -385,11 +385,11 @@ cell_settles p cell call submitted is out progress next form =
     }
 
 -- with what was found of it
-pub cell_settles_with : (p : Progress) (cell back : CellWork) (call : Call) (submitted : Submitted) (s : WireSub) (now : List Answer) → p.cell ≡ Some cell → p.call ≡ Some call → IsProgress p
-    → (next : IsNextInWhole p (whole (Some call) cell) call) → Fits call submitted → back ≡ whole (Some call) cell → s ≡ next.sub → now ≡ back.answers ++ answer_to s submitted ∷ []
-    → Settles p submitted (record p { cell = Some (answered back now); call = None })
-cell_settles_with p cell back call submitted s now is out progress next fits back_is same more =
-    rw (more, same, back_is) (cell_settles p cell call submitted is out progress next
+pub cell_settles_with : (p : Progress) (cell back : CellWork) (call : Call) (taken : Option Call) (submitted : Submitted) (s : WireSub) (now : List Answer) → p.cell ≡ Some cell → p.call ≡ Some call → IsProgress p
+    → (next : IsNextInWhole p (whole (Some call) cell) call) → Fits call submitted → back ≡ whole (Some call) cell → taken ≡ None → s ≡ next.sub → now ≡ back.answers ++ answer_to s submitted ∷ []
+    → Settles p submitted (record p { cell = Some (answered back now); call = taken })
+cell_settles_with p cell back call taken submitted s now is out progress next fits back_is none same more =
+    rw (more, same, back_is, none) (cell_settles p cell call submitted is out progress next
     (fits_form (caller_of p) cell.carried (whole (Some call) cell).request.elements next.sub.what next.what submitted next.asked (subst (λ (x : Call). Fits x submitted) next.call_is fits)))
 
 -- the call of a Cell, where the Cell is

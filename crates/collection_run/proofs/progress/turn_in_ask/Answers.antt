@@ -6,7 +6,7 @@ use Rattle.collection_run.specs.Collections.{doc_of}
 use Rattle.collection_run.specs.Turning.{BeginsAs, IsPlain}
 use Rattle.collection_run.specs.declared.beginning.Begun.TheVariants.{Ended, Opens}
 use Rattle.dependency_runner.specs.Deciding.{decide}
-use Rattle.collection_run.proofs.Closing.{moves_on, ends_at_once, calls_at_once, opens, here_of}
+use Rattle.collection_run.proofs.Closing.{moves_with, ends_at_once, calls_at_once, opens, here_of}
 use Rattle.collection_run.proofs.progress.turn_in_ask.Goals as goal
 
 pub returns-then-p-subs-clause-turns : goal.returns-then-p-subs-clause-turns
@@ -15,7 +15,9 @@ returns-then-p-subs-clause-turns c =
     let ask = c.index-as_slice-p.result in
     let ask_here = here_of c.as_slice.result.now p.collection.requests p.request ask c.as_slice.ensures c.index-as_slice-p.is c.requires.more in
     let over : length ask.subs ≤ p.sub = omega (arith, ap length c.as_slice-subs.ensures) in
-    rw c.truncate.ensures (moves_on p ask c.requires.progress ask_here c.requires.cell c.requires.call (drop_all p.sub ask.subs over) over)
+    let doc_is : c.doc_at-p.result ≡ doc_at p.names (drop (p.request + 1) p.collection.requests) =
+        c.doc_at-p.ensures ∙ ap (λ l. doc_at p.names (drop (p.request + 1) l)) c.as_slice-then-p-subs.ensures in
+    moves_with p ask c.doc_at-p.result c.truncate.new.self c.requires.progress ask_here c.requires.cell c.requires.call (drop_all p.sub ask.subs over) over doc_is c.truncate.ensures
 
 pub returns-in_ok-close-in-Ended-clause-turns : goal.returns-in_ok-close-in-Ended-clause-turns
 returns-in_ok-close-in-Ended-clause-turns c =
@@ -68,7 +70,9 @@ returns-then-p-subs-clause-safe c =
     let ask = c.index-as_slice-p.result in
     let ask_here = here_of c.as_slice.result.now p.collection.requests p.request ask c.as_slice.ensures c.index-as_slice-p.is c.requires.more in
     let over : length ask.subs ≤ p.sub = omega (arith, ap length c.as_slice-subs.ensures) in
-    rw c.truncate.ensures ((moves_on p ask c.requires.progress ask_here c.requires.cell c.requires.call (drop_all p.sub ask.subs over) over).progress)
+    let doc_is : c.doc_at-p.result ≡ doc_at p.names (drop (p.request + 1) p.collection.requests) =
+        c.doc_at-p.ensures ∙ ap (λ l. doc_at p.names (drop (p.request + 1) l)) c.as_slice-then-p-subs.ensures in
+    (moves_with p ask c.doc_at-p.result c.truncate.new.self c.requires.progress ask_here c.requires.cell c.requires.call (drop_all p.sub ask.subs over) over doc_is c.truncate.ensures).progress
 
 pub returns-in-Opens-clause-safe : goal.returns-in-Opens-clause-safe
 returns-in-Opens-clause-safe c =
