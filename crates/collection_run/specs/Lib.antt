@@ -1,0 +1,8 @@
+pub mod Processes
+pub mod Urls
+pub mod Opening
+pub mod Asking
+pub mod Collections
+pub mod Progress
+pub mod Turning
+pub mod Serving
