@@ -4,6 +4,8 @@
 #![tactic(auto)]
 
 #[cfg(test)]
+mod large_tests;
+#[cfg(test)]
 mod row_tests;
 #[cfg(test)]
 mod test_answers;
