@@ -27,14 +27,13 @@ use Rattle.dependency_runner.specs.declared.deciding.Decision.TheVariants.{Run}
 use Rattle.dependency_runner.specs.declared.state.Before.{Before}
 use Rattle.dependency_runner.specs.declared.state.State.{State}
 use Rattle.collection_run.specs.declared.cell.CellWork.{CellWork}
-use Rattle.collection_run.specs.declared.beginning.Begun.{Begun}
-use Rattle.collection_run.specs.declared.beginning.Begun.TheVariants.{Ended, Calls, Opens}
+use Rattle.collection_run.specs.declared.beginning.Begun.TheVariants.{Ended, Opens}
 use Rattle.collection_run.specs.declared.progress.Progress.{Progress}
 use Rattle.collection_run.specs.Asking.{answer_to, word_of}
 use Rattle.collection_run.specs.Collections.{Caller, doc_of, run_sub, cell_from, before, subs_from, asks_from}
 use Rattle.collection_run.specs.Processes.{Process, Asks, after}
-use Rattle.collection_run.specs.Progress.{GoesOnInCell, IsNextInCell, whole, IsNextInWhole, doc_at, cell_with, caller_of, finish, closed, in_cell, in_ask, at_asks, process_of, with_cell, IsAt, IsInCell, subs_behind, IsProgress, IsNextInAsk, IsNextAt, IsNext}
-use Rattle.collection_run.specs.Turning.{IsPlain, BeginsAs, asks_left, subs_left, turns_at, turns_left, Closes, IsOut, TurnEnds, Turns, Settles}
+use Rattle.collection_run.specs.Progress.{GoesOnInCell, whole, IsNextInWhole, doc_at, cell_with, caller_of, finish, closed, in_cell, in_ask, at_asks, process_of, with_cell, IsAt, IsInCell, subs_behind, IsProgress, IsNextInAsk, IsNextAt, IsNext}
+use Rattle.collection_run.specs.Turning.{IsPlain, BeginsAs, asks_left, subs_left, turns_at, turns_left, Closes, Turns, Settles}
 use Rattle.collection_run.proofs.Cells.{cell_asks, cell_after}
 use Rattle.collection_run.proofs.Forms.{fits_form}
 
@@ -239,26 +238,26 @@ pub calls_at_once : (p : Progress) (ask : Ask) (sub : SubAsk) (doc : ℕ) (call 
     → IsPlain (caller_of p) (doc_of p.names ask.url) (decide sub.depend p.earlier) sub.what doc call → Turns p (calling p call) (Some doc)
 calls_at_once p ask sub doc call progress here none plain =
     let there : IsAt (calling p call) ask sub = record { ask_here = here.ask_here; sub_here = here.sub_here } in record {
-  same = process_here (calling p call) ask sub there none ∙ sym (process_here p ask sub here none);
-  progress = record { within = progress.within; counted = progress.counted; doc = progress.doc; sub_within = progress.sub_within; cell = subst (λ (c : Option CellWork). IfSome c (IsInCell (calling p call))) (sym none) tt };
-  ends = record {
-    call = call;
-    out = refl;
-    next = subst (λ (c : Option CellWork). IsNextAt (calling p call) c call) (sym none) (record {
-      ask = ask;
-      sub = sub;
-      here = there;
-      doc = doc;
-      runs = plain.runs;
-      doc_is = plain.doc_is;
-      what = plain.sub;
-      plain = plain.plain;
-      call_is = plain.call_is;
-    });
-    asks = subst (λ (x : Process). Asks x doc call) (sym (process_here (calling p call) ask sub there none))
-        (plain_asks (caller_of p) (doc_of p.names ask.url) (decide sub.depend p.earlier) sub.what doc call (behind p ask sub) plain);
-  };
-}
+      same = process_here (calling p call) ask sub there none ∙ sym (process_here p ask sub here none);
+      progress = record { within = progress.within; counted = progress.counted; doc = progress.doc; sub_within = progress.sub_within; cell = subst (λ (c : Option CellWork). IfSome c (IsInCell (calling p call))) (sym none) tt };
+      ends = record {
+        call = call;
+        out = refl;
+        next = subst (λ (c : Option CellWork). IsNextAt (calling p call) c call) (sym none) (record {
+          ask = ask;
+          sub = sub;
+          here = there;
+          doc = doc;
+          runs = plain.runs;
+          doc_is = plain.doc_is;
+          what = plain.sub;
+          plain = plain.plain;
+          call_is = plain.call_is;
+        });
+        asks = subst (λ (x : Process). Asks x doc call) (sym (process_here (calling p call) ask sub there none))
+            (plain_asks (caller_of p) (doc_of p.names ask.url) (decide sub.depend p.earlier) sub.what doc call (behind p ask sub) plain);
+      };
+    }
 
 no_forms : (l : List Answer) → l ≡ [] → All (λ (a : Answer). HasForm a.submitted) l
 no_forms l e = subst (λ (x : List Answer). All (λ (a : Answer). HasForm a.submitted) x) (sym e) (All-nil (λ (a : Answer). HasForm a.submitted))

@@ -11,8 +11,11 @@ use std::mem;
 
 // The bits of a put's flag byte that count (MS-FSSHTTPB 2.2.2.1.4).
 const IMPLY_NULL: u8 = 1;
+
 const PARTIAL: u8 = 2;
+
 const LAST: u8 = 4;
+
 const LAST_WRITER_WINS: u8 = 128;
 
 // Whether the flags have the bit of this value.

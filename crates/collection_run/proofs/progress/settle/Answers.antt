@@ -16,8 +16,8 @@ returns-in_ok-push-in-Some-clause-settles c =
     let back_is : back ≡ whole (Some call) cell = c.take_back.ensures ∙ ap (λ (o : Option Call). whole o cell) (c.take-call.ensures.value ∙ c.requires.call.1) in
     let s = c.index-as_slice-len.result in
     let s_is : s ≡ next.sub = indexed c.as_slice.result.now cell.request.subs (length cell.answers) s next.sub _
-        (c.as_slice.ensures ∙ ap (λ (w : CellWork). w.request.subs) back_is)
-        (c.index-as_slice-len.is ∙ ap (λ n. get_or c.as_slice.result.now n s) (c.len.ensures ∙ ap (λ (w : CellWork). length w.answers) back_is)) next.here in
+    (c.as_slice.ensures ∙ ap (λ (w : CellWork). w.request.subs) back_is)
+    (c.index-as_slice-len.is ∙ ap (λ n. get_or c.as_slice.result.now n s) (c.len.ensures ∙ ap (λ (w : CellWork). length w.answers) back_is)) next.here in
     cell_settles_with p cell back call c.take-call.new.self c.args.submitted s c.push.new.self is c.requires.call.1 c.requires.progress next c.requires.call.3
     back_is c.take-call.ensures.after s_is c.in_ok-push-in-Some.ensures.ok
 
@@ -32,7 +32,7 @@ returns-in_ok-push-in-Some-clause-safe c =
     let back_is : back ≡ whole (Some call) cell = c.take_back.ensures ∙ ap (λ (o : Option Call). whole o cell) (c.take-call.ensures.value ∙ c.requires.call.1) in
     let s = c.index-as_slice-len.result in
     let s_is : s ≡ next.sub = indexed c.as_slice.result.now cell.request.subs (length cell.answers) s next.sub _
-        (c.as_slice.ensures ∙ ap (λ (w : CellWork). w.request.subs) back_is)
-        (c.index-as_slice-len.is ∙ ap (λ n. get_or c.as_slice.result.now n s) (c.len.ensures ∙ ap (λ (w : CellWork). length w.answers) back_is)) next.here in
+    (c.as_slice.ensures ∙ ap (λ (w : CellWork). w.request.subs) back_is)
+    (c.index-as_slice-len.is ∙ ap (λ n. get_or c.as_slice.result.now n s) (c.len.ensures ∙ ap (λ (w : CellWork). length w.answers) back_is)) next.here in
     (cell_settles_with p cell back call c.take-call.new.self c.args.submitted s c.push.new.self is c.requires.call.1 c.requires.progress next c.requires.call.3
     back_is c.take-call.ensures.after s_is c.in_ok-push-in-Some.ensures.ok).progress
