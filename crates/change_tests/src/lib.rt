@@ -6,6 +6,8 @@
 #[cfg(test)]
 mod body_tests;
 #[cfg(test)]
+mod large_tests;
+#[cfg(test)]
 mod refused_tests;
 #[cfg(test)]
 mod test_forms;

@@ -111,7 +111,11 @@ fn sixty_five_sub_requests(rt: HostRuntime) -> Result<(), Stop> {
 #[test]
 fn no_request(rt: HostRuntime) -> Result<(), Stop> {
     let refused = failure(rt.alloc(), b"\x12\x00")?;
-    for text in ["", "AA==", "DAALAJzPKfM5lAabBgIAABYCBgADFwACBAYAog8ACwGsAgBVAwEA"] {
+    for text in [
+        "",
+        "AA==",
+        "DAALAJzPKfM5lAabBgIAABYCBgADFwACBAYAog8ACwGsAgBVAwEA",
+    ] {
         assert!(rt; is_said(rt.alloc(), text, "CellRequestFail", refused.as_str())?);
     }
     Ok(())

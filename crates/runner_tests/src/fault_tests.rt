@@ -75,7 +75,11 @@ fn plain_reads(rt: HostRuntime) -> Result<(), Stop> {
 fn changes_of_a_cell(rt: HostRuntime) -> Result<(), Stop> {
     let alloc = rt.alloc();
     let put = Part::Put(index(7), ExGuid::Null, 0);
-    let text = cell(alloc, &[put, Part::Draw(0), put, Part::Draw(1000)], file(alloc, 7)?)?;
+    let text = cell(
+        alloc,
+        &[put, Part::Draw(0), put, Part::Draw(1000)],
+        file(alloc, 7)?,
+    )?;
     for (fate, word, number) in FATES {
         let answer = data(
             alloc,

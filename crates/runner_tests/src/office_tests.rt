@@ -80,7 +80,10 @@ fn two_documents(rt: HostRuntime) -> Result<(), Stop> {
     let draw = plain_cell(alloc, &[Part::Draw(1000)])?;
     let on_a = data(alloc, &[(DRAW, Became::Drawn(BYTES_A, b"\x03\xA2\x0F"))])?;
     let on_b = data(alloc, &[(DRAW, Became::Drawn(BYTES_B, b"\x03\xA2\x0F"))])?;
-    let again = data(alloc, &[(DRAW, Became::Drawn(BYTES_A, b"\xA6\x0F\x42\x1F"))])?;
+    let again = data(
+        alloc,
+        &[(DRAW, Became::Drawn(BYTES_A, b"\xA6\x0F\x42\x1F"))],
+    )?;
     let first = ("Cell", "", "", draw.as_str(), "Success", on_a.as_str());
     let second = ("Cell", "", "", draw.as_str(), "Success", on_b.as_str());
     let third = ("Cell", "", "", draw.as_str(), "Success", again.as_str());
@@ -122,7 +125,13 @@ fn no_document(rt: HostRuntime) -> Result<(), Stop> {
             "",
         ),
     ];
-    for url in [URL_NONE, "", "a.docx/", "http://h/%61.doc", "http://h/%6.docx"] {
+    for url in [
+        URL_NONE,
+        "",
+        "a.docx/",
+        "http://h/%61.doc",
+        "http://h/%6.docx",
+    ] {
         let mut hosts = two_hosts(rt.alloc())?;
         assert!(rt; answers(rt.alloc(), hosts.as_mut_slice(), 0, &[(url, &rows)], &[])?);
     }

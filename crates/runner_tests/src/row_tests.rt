@@ -104,11 +104,7 @@ fn coauthors(rt: HostRuntime) -> Result<(), Stop> {
         coauth(JOIN_A, "Success", ALONE),
         coauth(JOIN_B, "Success", SEVERAL),
         coauth(CONVERT_A, "MultipleClientsInCoauthSession", ""),
-        coauth(
-            RELEASE_A,
-            "ExitCoauthSessionAsConvertToExclusiveFailed",
-            "",
-        ),
+        coauth(RELEASE_A, "ExitCoauthSessionAsConvertToExclusiveFailed", ""),
         coauth(STATUS_B, "Success", ALONE),
         coauth(REFRESH_A, "FileNotLockedOnServer", ""),
         coauth(JOIN_C, TAKEN, ""),
@@ -199,8 +195,9 @@ const LEAVE_D: &str =
 
 /// The attributes that set this key of the first editor.
 fn set_key(alloc: Global, key: &str) -> Result<String, Stop> {
-    match format!(in alloc; "EditorsTableRequestType='UpdateEditorMetadata' ClientID='00000000-0000-0000-0000-00000000000e' Key='{key}'")
-    {
+    match format!(in alloc;
+        "EditorsTableRequestType='UpdateEditorMetadata' ClientID='00000000-0000-0000-0000-00000000000e' Key='{key}'"
+    ) {
         Ok(text) => Ok(text),
         Err(_) => Err(Stop::NoMemory),
     }
@@ -226,7 +223,11 @@ fn editors_and_their_keys(rt: HostRuntime) -> Result<(), Stop> {
         alone("<SubResponseData AmIAlone=\"True\"/>"),
         editors(JOIN_F, "", "Success"),
         alone("<SubResponseData AmIAlone=\"False\"/>"),
-        editors(long.as_str(), "eA==", "EditorMetadataStringExceedsLengthLimit"),
+        editors(
+            long.as_str(),
+            "eA==",
+            "EditorMetadataStringExceedsLengthLimit",
+        ),
     ];
     let back = [
         editors(ninth.as_str(), "eA==", "EditorMetadataQuotaReached"),

@@ -118,8 +118,7 @@ const FAULT_END: &[u8] = b"\x00\x00\x37\x01";
 const KNOWLEDGE: &[u8] =
     b"\x84\x00\x26\x02\x20\x00\xF6\x35\x7A\x32\x61\x07\x14\x44\x96\x86\x51\xE9\x00\x66\x7A\x4D\xA4\x00";
 
-const RANGE: &[u8] =
-    b"\x78\x24\x33\x22\x11\x00\x55\x44\x77\x66\x88\x99\xAA\xBB\xCC\xDD\xEE\xFF";
+const RANGE: &[u8] = b"\x78\x24\x33\x22\x11\x00\x55\x44\x77\x66\x88\x99\xAA\xBB\xCC\xDD\xEE\xFF";
 
 const KNOWLEDGE_END: &[u8] = b"\x51\x13\x01\x41";
 
@@ -164,10 +163,7 @@ fn add_said(out: &mut Octets, said: Said) -> Result<(), Stop> {
         Became::Drawn(guid, numbers) => {
             // the length of the object's fields, behind the bit that the type leaves
             let length = if numbers.len() == 3 { b"\x26" } else { b"\x28" };
-            add_bytes(
-                out,
-                &[b"\x00", b"\x0A\x04", length, b"\x00", guid, numbers],
-            )?;
+            add_bytes(out, &[b"\x00", b"\x0A\x04", length, b"\x00", guid, numbers])?;
         }
         Became::Stored(numbers) => add_bytes(
             out,
