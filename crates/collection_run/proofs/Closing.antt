@@ -27,14 +27,13 @@ use Rattle.dependency_runner.specs.declared.deciding.Decision.TheVariants.{Run}
 use Rattle.dependency_runner.specs.declared.state.Before.{Before}
 use Rattle.dependency_runner.specs.declared.state.State.{State}
 use Rattle.collection_run.specs.declared.cell.CellWork.{CellWork}
-use Rattle.collection_run.specs.declared.beginning.Begun.{Begun}
-use Rattle.collection_run.specs.declared.beginning.Begun.TheVariants.{Ended, Calls, Opens}
+use Rattle.collection_run.specs.declared.beginning.Begun.TheVariants.{Ended, Opens}
 use Rattle.collection_run.specs.declared.progress.Progress.{Progress}
 use Rattle.collection_run.specs.Asking.{answer_to, word_of}
 use Rattle.collection_run.specs.Collections.{Caller, doc_of, run_sub, cell_from, before, subs_from, asks_from}
 use Rattle.collection_run.specs.Processes.{Process, Asks, after}
-use Rattle.collection_run.specs.Progress.{GoesOnInCell, IsNextInCell, whole, IsNextInWhole, doc_at, cell_with, caller_of, finish, closed, in_cell, in_ask, at_asks, process_of, with_cell, IsAt, IsInCell, subs_behind, IsProgress, IsNextInAsk, IsNextAt, IsNext}
-use Rattle.collection_run.specs.Turning.{IsPlain, BeginsAs, asks_left, subs_left, turns_at, turns_left, Closes, IsOut, TurnEnds, Turns, Settles}
+use Rattle.collection_run.specs.Progress.{GoesOnInCell, whole, IsNextInWhole, doc_at, cell_with, caller_of, finish, closed, in_cell, in_ask, at_asks, process_of, with_cell, IsAt, IsInCell, subs_behind, IsProgress, IsNextInAsk, IsNextAt, IsNext}
+use Rattle.collection_run.specs.Turning.{IsPlain, BeginsAs, asks_left, subs_left, turns_at, turns_left, Closes, Turns, Settles}
 use Rattle.collection_run.proofs.Cells.{cell_asks, cell_after}
 use Rattle.collection_run.proofs.Forms.{fits_form}
 

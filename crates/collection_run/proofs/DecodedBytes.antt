@@ -1,9 +1,9 @@
 -- Base64 means bytes: no number past 255.
-use Rattle.std.proofs.Common.{◌≡◌, ℕ, zero, suc, ◌+◌, ◌*◌, ◌<◌, ◌==◌, nat_lt, Bool, true, false, cond, List, [], ◌∷◌, ◌++◌, length, take, drop, get_or, slice_index, slice_set, Option, Some, None, Result, Ok, Err, ◌⊎◌, inl, inr, refl, sym, ap, subst, arith}
+use Rattle.std.proofs.Common.{◌≡◌, ℕ, zero, suc, ◌+◌, ◌*◌, ◌<◌, ◌==◌, nat_lt, Bool, true, false, cond, List, [], ◌∷◌, length, drop, get_or, slice_index, slice_set, Option, Some, None, Result, Ok, Err, ◌⊎◌, inl, inr, refl, ap, subst, arith}
 use Rattle.std.proofs.lemmas.Bool.{cases_Bool, cases_lt, cases_eq}
 use Rattle.std.proofs.lemmas.List.{get_or_past, get_or-set_same, get_or-set_other, set_past}
 use Rattle.base64.proofs.Tables.{IsDecodeTable_from, are_tables_inverse}
-use Rattle.base64.specs.Decode.{or_else, symbol_error, decode_group, group_error, group_bytes, groups_error, groups_bytes, groups_before_last, push_leftover, scan_steps, no_leftover, leftover_bytes, scan_bytes, scan_last, suffix_bytes, lone_error, suffix_error, decode_error, decoded_bytes, decode_outcome}
+use Rattle.base64.specs.Decode.{or_else, symbol_error, decode_group, group_error, group_bytes, groups_error, groups_bytes, groups_before_last, push_leftover, scan_steps, no_leftover, scan_bytes, scan_last, suffix_bytes, lone_error, suffix_error, decode_error, decoded_bytes, decode_outcome}
 use Rattle.base64.specs.Engines.{standard}
 use Rattle.base64.specs.GeneralPurpose.{decode_of}
 use Rattle.base64.specs.declared.decode.DecodeError.{DecodeError}

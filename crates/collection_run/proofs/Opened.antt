@@ -1,5 +1,5 @@
 -- The request in a Cell: at most 64 sub-requests, and puts that may be made.
-use Rattle.std.proofs.Common.{◌≡◌, ℕ, ◌≤◌, Bool, true, false, List, length, Option, Some, None, Result, Ok, Err, refl, sym, subst}
+use Rattle.std.proofs.Common.{◌≡◌, ℕ, ◌≤◌, Bool, true, false, List, length, Option, Some, None, Result, Ok, Err, refl, subst}
 use Rattle.std.specs.Prelude.{IfOk}
 use Rattle.doc_model.specs.Requests.{IsRequest}
 use Rattle.doc_model.specs.declared.request.CellRequest.{CellRequest}

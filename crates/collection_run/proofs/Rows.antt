@@ -1,31 +1,38 @@
 -- Worked envelopes, by computing.
-use Rattle.std.proofs.Common.{◌≡◌, ℕ, List, [], ◌∷◌, ◌++◌, true, false, Some, None, refl}
+use Rattle.std.proofs.Common.{◌≡◌, ℕ, List, [], ◌∷◌, ◌++◌, true, false, Option, Some, None, refl, ap}
 use Rattle.std.specs.Prelude.{codes}
 use Rattle.std.specs.List.{flat_map}
 use Rattle.compact_values.specs.declared.guid.Guid.{Guid}
-use Rattle.doc_model.specs.Apply.{empty_doc}
+use Rattle.doc_model.specs.Apply.{apply, empty_doc}
 use Rattle.doc_model.specs.Responses.{failure, pulled_package, response, sub_response}
+use Rattle.doc_model.specs.WrittenElements.{cell_knowledge_bytes, knowledge_bytes, ranges_bytes}
 use Rattle.doc_model.specs.declared.call.Sub.{Sub}
 use Rattle.doc_model.specs.declared.call.Sub.TheVariants as sub
 use Rattle.doc_model.specs.declared.doc.Doc.{Doc}
 use Rattle.doc_model.specs.declared.editor.EditorStep.TheVariants as editor
 use Rattle.doc_model.specs.declared.lock.LockStep.{LockStep}
 use Rattle.doc_model.specs.declared.lock.LockStep.TheVariants as lock
+use Rattle.doc_model.specs.Turns.{Turn}
+use Rattle.doc_model.specs.declared.reply.Reply.TheVariants.{Me}
+use Rattle.doc_model.specs.declared.reply.Submitted.TheVariants.{Answered}
+use Rattle.doc_model.specs.declared.request.CellRequest.{CellRequest}
+use Rattle.doc_model.specs.declared.request.WireKind.TheVariants as wire
 use Rattle.envelope_read.specs.declared.collection.Ask.{Ask}
-use Rattle.envelope_read.specs.declared.collection.Depend.{Depend}
 use Rattle.envelope_read.specs.declared.collection.Depend.TheVariants.{Free, On}
 use Rattle.envelope_read.specs.declared.collection.DependWord.TheVariants as words
 use Rattle.envelope_read.specs.declared.collection.SubAsk.{SubAsk}
 use Rattle.envelope_read.specs.declared.collection.What.{What}
 use Rattle.envelope_read.specs.declared.collection.What.TheVariants as asking
 use Rattle.envelope_read.specs.declared.outcome.Outcome.{Outcome}
-use Rattle.envelope_read.specs.declared.outcome.Outcome.TheVariants.{Cell}
+use Rattle.envelope_read.specs.declared.outcome.Outcome.TheVariants.{Cell, NotSupported, Plain}
 use Rattle.envelope_write.specs.Words.{error_code}
 use Rattle.envelope_write.specs.AnswerText.{answered_text, data_text, response_text, sub_text, subs_text}
 use Rattle.envelope_write.specs.Xml.{attributes_text, end_tag, escape, escaped, start_tag}
-use Rattle.wire_requests.specs.RequestOf.{has_front, request_of}
-use Rattle.wire_requests.specs.RequestReading.{allocate_at, child_at, draw_at, pull_at, put_at, put_fields_at, request_at, sub_at, what_at}
-use Rattle.collection_run.specs.Collections.{Caller, asks_from}
+use Rattle.base64.specs.Rfc4648.{encode_symbols}
+use Rattle.stream_objects.specs.Written as written
+use Rattle.wire_requests.specs.RequestOf.{request_of}
+use Rattle.collection_run.specs.Collections.{Caller, asks_from, call_of, run_cell}
+use Rattle.collection_run.specs.Opening.{or_number}
 use Rattle.collection_run.specs.Processes.{Process, says}
 use Rattle.collection_run.specs.Serving.{Served, serve}
 
@@ -115,7 +122,7 @@ row_22 :
 unfolding lib.Utf8.encode
 row_22 = refl
 
--- ---- binary requests
+-- ---- binary requests, whatever bytes they are
 
 -- the GUID 00112233-4455-6677-8899-aabbccddeeff
 abbrev guid : Guid
@@ -129,75 +136,78 @@ cell_bytes outcome = []
 abbrev binaries : List Outcome → Process
 binaries outcomes = says (flat_map cell_bytes outcomes)
 
-abbrev bytes_on : Doc → List SubAsk → List ℕ
-bytes_on doc subs = (serve doc (asks_from (at_moment 0) [] (asked_of subs) binaries)).text
+-- another partition
+row_16_binary : (bytes : List ℕ) → (serve (empty_doc guid) (asks_from (at_moment 0) [] (asked_of (free (asking.Cell bytes false None) ∷ [])) binaries)).text
+    ≡ 0x0C ∷ 0x00 ∷ 0x0B ∷ 0x00 ∷ 0x9D ∷ 0xCF ∷ 0x29 ∷ 0xF3 ∷ 0x39 ∷ 0x94 ∷ 0x06 ∷ 0x9B ∷ 0x16 ∷ 0x03 ∷ 0x02 ∷ 0x00 ∷ 0x01 ∷ 0x6E ∷ 0x02 ∷ 0x20 ∷ 0x00 ∷ 0x56 ∷ 0xA7 ∷ 0x66 ∷ 0x5A ∷ 0xCE ∷ 0x87 ∷ 0x90 ∷ 0x42 ∷ 0xA3 ∷ 0x8B ∷ 0xC6
+    ∷ 0x1C ∷ 0x5B ∷ 0xA0 ∷ 0x5A ∷ 0x67 ∷ 0x32 ∷ 0x03 ∷ 0x08 ∷ 0x00 ∷ 0x03 ∷ 0x00 ∷ 0x00 ∷ 0x00 ∷ 0x37 ∷ 0x01 ∷ 0x8B ∷ 0x01 ∷ []
+unfolding lib.Utf8.encode written.started failure
+row_16_binary bytes = refl
 
--- a request for 1,000 numbers
-abbrev thousand : List ℕ
-thousand =
-    0x0C ∷ 0x00 ∷ 0x0B ∷ 0x00 ∷ 0x9C ∷ 0xCF ∷ 0x29 ∷ 0xF3 ∷ 0x39 ∷ 0x94 ∷ 0x06 ∷ 0x9B ∷ 0x06 ∷ 0x02 ∷ 0x00 ∷ 0x00 ∷ 0x16 ∷ 0x02 ∷ 0x06 ∷ 0x00 ∷ 0x03 ∷ 0x17 ∷ 0x00
-    ∷ 0x02 ∷ 0x04 ∷ 0x06 ∷ 0x00 ∷ 0xA2 ∷ 0x0F ∷ 0x00 ∷ 0x0B ∷ 0x01 ∷ 0xAC ∷ 0x02 ∷ 0x00 ∷ 0x55 ∷ 0x03 ∷ 0x01 ∷ []
+-- one that asks for 1,000 numbers, and its response
+abbrev thousand : CellRequest
+thousand = record { subs = record { id = 1; kind = 11; what = wire.Draw 1000 } ∷ []; elements = [] }
 
--- and its response
-abbrev thousand_drawn : List ℕ
-thousand_drawn =
+abbrev drawn : List ℕ
+drawn =
     0x0C ∷ 0x00 ∷ 0x0B ∷ 0x00 ∷ 0x9D ∷ 0xCF ∷ 0x29 ∷ 0xF3 ∷ 0x39 ∷ 0x94 ∷ 0x06 ∷ 0x9B ∷ 0x16 ∷ 0x03 ∷ 0x02 ∷ 0x00 ∷ 0x00 ∷ 0xAC ∷ 0x02 ∷ 0x00 ∷ 0x55 ∷ 0x0E ∷ 0x02 ∷ 0x06 ∷ 0x00 ∷ 0x03 ∷ 0x17 ∷ 0x00
     ∷ 0x0A ∷ 0x04 ∷ 0x26 ∷ 0x00 ∷ 0x33 ∷ 0x22 ∷ 0x11 ∷ 0x00 ∷ 0x55 ∷ 0x44 ∷ 0x77 ∷ 0x66 ∷ 0x88 ∷ 0x99 ∷ 0xAA ∷ 0xBB ∷ 0xCC ∷ 0xDD ∷ 0xEE ∷ 0xFF ∷ 0x03 ∷ 0xA2 ∷ 0x0F ∷ 0x07 ∷ 0x01 ∷ 0x8B ∷ 0x01 ∷ []
 
-row_20_binary : bytes_on (empty_doc guid) (free (asking.Cell thousand true None) ∷ []) ≡ thousand_drawn
-unfolding request_of has_front request_at pull_at put_fields_at put_at allocate_at draw_at what_at sub_at child_at response sub_response pulled_package
-row_20_binary = refl
+-- who asks, then a Cell, then what isn't served
+abbrev three : List ℕ → Ask
+three bytes = record {
+  url = codes "http://h/a.docx";
+  token = codes "1";
+  subs = free (asking.Plain sub.WhoAmI)
+      ∷ record { token = codes "2"; depend = Free; what = asking.Cell bytes true None }
+      ∷ record { token = codes "3"; depend = Free; what = asking.NotSupported }
+      ∷ [];
+}
 
--- another partition
-row_16_binary : bytes_on (empty_doc guid) (free (asking.Cell thousand false None) ∷ [])
-    ≡ 0x0C ∷ 0x00 ∷ 0x0B ∷ 0x00 ∷ 0x9D ∷ 0xCF ∷ 0x29 ∷ 0xF3 ∷ 0x39 ∷ 0x94 ∷ 0x06 ∷ 0x9B ∷ 0x16 ∷ 0x03 ∷ 0x02 ∷ 0x00 ∷ 0x01 ∷ 0x6E ∷ 0x02 ∷ 0x20 ∷ 0x00 ∷ 0x56 ∷ 0xA7 ∷ 0x66 ∷ 0x5A ∷ 0xCE ∷ 0x87 ∷ 0x90 ∷ 0x42 ∷ 0xA3 ∷ 0x8B ∷ 0xC6
-    ∷ 0x1C ∷ 0x5B ∷ 0xA0 ∷ 0x5A ∷ 0x67 ∷ 0x32 ∷ 0x03 ∷ 0x08 ∷ 0x00 ∷ 0x03 ∷ 0x00 ∷ 0x00 ∷ 0x00 ∷ 0x37 ∷ 0x01 ∷ 0x8B ∷ 0x01 ∷ []
-unfolding failure
-row_16_binary = refl
+abbrev three_by : (List Outcome → Process) → Option CellRequest → List ℕ
+three_by said o =
+    (serve (empty_doc guid) (run_cell (at_moment 0) 0 None (or_number o) (λ outcome.
+    said (Plain (Answered (Me (codes "ann"))) ∷ outcome ∷ NotSupported ∷ [])))).text
 
--- a query with a filter, and in front of it an object without a place there, which holds another
-abbrev query : List ℕ
-query =
-    0x0C ∷ 0x00 ∷ 0x0B ∷ 0x00 ∷ 0x9C ∷ 0xCF ∷ 0x29 ∷ 0xF3 ∷ 0x39 ∷ 0x94 ∷ 0x06 ∷ 0x9B ∷ 0x06 ∷ 0x02 ∷ 0x00 ∷ 0x00 ∷ 0x16 ∷ 0x02 ∷ 0x06 ∷ 0x00 ∷ 0x03 ∷ 0x05 ∷ 0x00
-    ∷ 0xEE ∷ 0x02 ∷ 0x00 ∷ 0x00 ∷ 0x82 ∷ 0x02 ∷ 0x02 ∷ 0x00 ∷ 0x07 ∷ 0x77 ∷ 0x01
-    ∷ 0x8A ∷ 0x02 ∷ 0x02 ∷ 0x00 ∷ 0x00 ∷ 0x3E ∷ 0x02 ∷ 0x06 ∷ 0x00 ∷ 0x03 ∷ 0x01 ∷ 0x00 ∷ 0x1F ∷ 0x01
-    ∷ 0x0B ∷ 0x01 ∷ 0xAC ∷ 0x02 ∷ 0x00 ∷ 0x55 ∷ 0x03 ∷ 0x01 ∷ []
+row_20_binary : (bytes : List ℕ) → request_of bytes ≡ Some thousand → (serve (empty_doc guid) (asks_from (at_moment 0) [] (three bytes ∷ []) binaries)).text ≡ drawn
+unfolding lib.Utf8.encode written.started response sub_response pulled_package
+row_20_binary bytes e = ap (three_by binaries) e
 
--- its response on an empty document
+row_20 : (bytes : List ℕ) → request_of bytes ≡ Some thousand
+    → (serve (empty_doc guid) (asks_from (at_moment 0) [] (three bytes ∷ []) (λ outcomes. says (response_text (three []) outcomes)))).text
+    ≡ codes "<Response Url=\"http://h/a.docx\" RequestToken=\"1\" HealthScore=\"0\"><SubResponse SubRequestToken=\"1\" ErrorCode=\"Success\" HResult=\"0\"><SubResponseData UserName=\"ann\" UserLogin=\"ann\"/></SubResponse><SubResponse SubRequestToken=\"2\" ErrorCode=\"Success\" HResult=\"0\"><SubResponseData>DAALAJ3PKfM5lAabFgMCAACsAgBVDgIGAAMXAAoEJgAzIhEAVUR3ZoiZqrvM3e7/A6IPBwGLAQ==</SubResponseData></SubResponse><SubResponse SubRequestToken=\"3\" ErrorCode=\"RequestNotSupported\" HResult=\"2147500037\"/></Response>"
+unfolding lib.Utf8.encode written.started response sub_response pulled_package encode_symbols response_text subs_text sub_text data_text answered_text attributes_text start_tag end_tag escaped escape
+row_20 bytes e = ap (three_by (λ outcomes. says (response_text (three []) outcomes))) e
+
+-- one that asks for what its client lacks, and its response on an empty document
+abbrev query : CellRequest
+query = record { subs = record { id = 1; kind = 2; what = wire.Pull (record { ranges = [] }) } ∷ []; elements = [] }
+
 abbrev nothing_pulled : List ℕ
 nothing_pulled =
     0x0C ∷ 0x00 ∷ 0x0B ∷ 0x00 ∷ 0x9D ∷ 0xCF ∷ 0x29 ∷ 0xF3 ∷ 0x39 ∷ 0x94 ∷ 0x06 ∷ 0x9B ∷ 0x16 ∷ 0x03 ∷ 0x02 ∷ 0x00 ∷ 0x00 ∷ 0xAC ∷ 0x02 ∷ 0x00 ∷ 0x55 ∷ 0x0E ∷ 0x02 ∷ 0x06 ∷ 0x00 ∷ 0x03 ∷ 0x05 ∷ 0x00
     ∷ 0xFA ∷ 0x02 ∷ 0x04 ∷ 0x00 ∷ 0x00 ∷ 0x00 ∷ 0x84 ∷ 0x00 ∷ 0x26 ∷ 0x02 ∷ 0x20 ∷ 0x00 ∷ 0xF6 ∷ 0x35 ∷ 0x7A ∷ 0x32 ∷ 0x61 ∷ 0x07 ∷ 0x14 ∷ 0x44 ∷ 0x96 ∷ 0x86 ∷ 0x51 ∷ 0xE9 ∷ 0x00 ∷ 0x66 ∷ 0x7A ∷ 0x4D
     ∷ 0xA4 ∷ 0x00 ∷ 0x51 ∷ 0x13 ∷ 0x01 ∷ 0x41 ∷ 0x07 ∷ 0x01 ∷ 0x8B ∷ 0x01 ∷ []
 
-abbrev office : List SubAsk
-office =
-    locking (lock.TakeShared (id 1) (id 100) 3600 true)
-    ∷ record { token = codes "2"; depend = On (codes "1") words.OnSuccess; what = asking.Cell query true (Some (id 1)) }
+-- a client joins the coauthors, and then its Cell is run
+abbrev join : Sub
+join = sub.Lock (lock.TakeShared (id 1) (id 100) 3600 true)
+
+abbrev office : List ℕ → List SubAsk
+office bytes =
+    free (asking.Plain join)
+    ∷ record { token = codes "2"; depend = On (codes "1") words.OnSuccess; what = asking.Cell bytes true (Some (id 1)) }
     ∷ []
 
-row_15 : (words_on (empty_doc guid) 0 office).text ≡ codes "Success Success "
-unfolding lib.Utf8.encode request_of has_front request_at pull_at put_fields_at put_at allocate_at draw_at what_at sub_at child_at
-row_15 = refl
+abbrev joined : Turn
+joined = apply (empty_doc guid) (call_of (at_moment 0) join)
 
-row_15_binary : bytes_on (empty_doc guid) office ≡ nothing_pulled
-unfolding request_of has_front request_at pull_at put_fields_at put_at allocate_at draw_at what_at sub_at child_at response sub_response pulled_package
-row_15_binary = refl
+abbrev office_by : (List Outcome → Process) → Option CellRequest → List ℕ
+office_by said o = (serve joined.doc (run_cell (at_moment 0) 0 (Some (id 1)) (or_number o) (λ outcome. said (Plain (Answered joined.reply) ∷ outcome ∷ [])))).text
 
--- ---- the text of a Response
+row_15 : (bytes : List ℕ) → request_of bytes ≡ Some query → (words_on (empty_doc guid) 0 (office bytes)).text ≡ codes "Success Success "
+unfolding lib.Utf8.encode
+row_15 bytes e = ap (office_by said) e
 
-abbrev three : Ask
-three = record {
-  url = codes "http://h/a.docx";
-  token = codes "1";
-  subs = free (asking.Plain sub.WhoAmI)
-      ∷ record { token = codes "2"; depend = Free; what = asking.Cell thousand true None }
-      ∷ record { token = codes "3"; depend = Free; what = asking.NotSupported }
-      ∷ [];
-}
-
-row_20 :
-    (serve (empty_doc guid) (asks_from (at_moment 0) [] (three ∷ []) (λ outcomes. says (response_text three outcomes)))).text
-    ≡ codes "<Response Url=\"http://h/a.docx\" RequestToken=\"1\" HealthScore=\"0\"><SubResponse SubRequestToken=\"1\" ErrorCode=\"Success\" HResult=\"0\"><SubResponseData UserName=\"ann\" UserLogin=\"ann\"/></SubResponse><SubResponse SubRequestToken=\"2\" ErrorCode=\"Success\" HResult=\"0\"><SubResponseData>DAALAJ3PKfM5lAabFgMCAACsAgBVDgIGAAMXAAoEJgAzIhEAVUR3ZoiZqrvM3e7/A6IPBwGLAQ==</SubResponseData></SubResponse><SubResponse SubRequestToken=\"3\" ErrorCode=\"RequestNotSupported\" HResult=\"2147500037\"/></Response>"
-unfolding lib.Utf8.encode request_of has_front request_at pull_at put_fields_at put_at allocate_at draw_at what_at sub_at child_at response sub_response pulled_package response_text subs_text sub_text data_text answered_text attributes_text start_tag end_tag escaped escape
-row_20 = refl
+row_15_binary : (bytes : List ℕ) → request_of bytes ≡ Some query → (serve (empty_doc guid) (asks_from (at_moment 0) [] (asked_of (office bytes)) binaries)).text ≡ nothing_pulled
+unfolding lib.Utf8.encode written.started cell_knowledge_bytes knowledge_bytes ranges_bytes response sub_response pulled_package
+row_15_binary bytes e = ap (office_by binaries) e

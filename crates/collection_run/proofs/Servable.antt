@@ -1,12 +1,10 @@
 -- Each call of an envelope is one that may be made, of one of the documents.
-use Rattle.std.proofs.Common.{◌≡◌, ℕ, ◌<◌, ◌^◌, List, [], ◌∷◌, ◌++◌, length, Option, Some, None, Result, Ok, Err, Bool, true, false, refl, sym, ap, subst, arith}
-use Rattle.std.specs.Prelude.{IfSome, IfOk, encode_utf8_all}
+use Rattle.std.proofs.Common.{◌≡◌, ℕ, ◌<◌, ◌^◌, List, [], ◌∷◌, ◌++◌, length, Option, Some, None, Result, Ok, Err, refl}
+use Rattle.std.specs.Prelude.{IfSome, IfOk}
 use Rattle.std.specs.List.{AllByRecursion}
 use Rattle.std.proofs.lemmas.List.Quantifiers.{position-Some}
 use Rattle.compact_values.specs.declared.guid.Guid.{Guid}
-use Rattle.doc_model.specs.Histories.{Fits}
-use Rattle.doc_model.specs.Sound.{IsValidSub, Valid}
-use Rattle.doc_model.specs.declared.call.Call.{Call}
+use Rattle.doc_model.specs.Sound.{IsValidSub}
 use Rattle.doc_model.specs.declared.call.Sub.{Sub}
 use Rattle.doc_model.specs.declared.reply.Answer.{Answer}
 use Rattle.doc_model.specs.declared.reply.Submitted.{Submitted}
@@ -14,7 +12,7 @@ use Rattle.doc_model.specs.declared.request.CellRequest.{CellRequest}
 use Rattle.doc_model.specs.declared.request.WireKind.{WireKind}
 use Rattle.doc_model.specs.declared.request.WireKind.TheVariants as wire
 use Rattle.doc_model.specs.declared.request.WireSub.{WireSub}
-use Rattle.envelope_read.specs.Callable.{IsCallable, AreCallable}
+use Rattle.envelope_read.specs.Callable.{IsCallable}
 use Rattle.envelope_read.specs.Verdicts.{verdict}
 use Rattle.envelope_read.proofs.Callables.{verdict_callable}
 use Rattle.envelope_read.specs.declared.collection.Ask.{Ask}
@@ -23,15 +21,14 @@ use Rattle.envelope_read.specs.declared.collection.SubAsk.{SubAsk}
 use Rattle.envelope_read.specs.declared.collection.What.{What}
 use Rattle.envelope_read.specs.declared.collection.What.TheVariants as asking
 use Rattle.envelope_read.specs.declared.outcome.Outcome.{Outcome}
-use Rattle.envelope_read.specs.declared.outcome.Outcome.TheVariants.{Cell, Plain}
 use Rattle.dependency_runner.specs.Deciding.{decide}
 use Rattle.dependency_runner.specs.declared.deciding.Decision.{Decision}
 use Rattle.dependency_runner.specs.declared.deciding.Decision.TheVariants.{Run, Skip}
 use Rattle.dependency_runner.specs.declared.state.Before.{Before}
 use Rattle.collection_run.specs.Asking.{asked, answer_to}
-use Rattle.collection_run.specs.Collections.{Caller, call_of, doc_of, ask_known, cell_from, run_cell, run_what, run_sub, before, subs_from, asks_from, process}
+use Rattle.collection_run.specs.Collections.{Caller, doc_of, ask_known, cell_from, run_cell, run_what, run_sub, before, subs_from, asks_from, process}
 use Rattle.collection_run.specs.Opening.{IsSmall, request_in}
-use Rattle.collection_run.specs.Processes.{Process, says, calls, IsServable}
+use Rattle.collection_run.specs.Processes.{Process, IsServable}
 use Rattle.collection_run.proofs.CellBytes.{HasBytes, SubsHaveBytes, HaveBytes, verdict_bytes}
 use Rattle.collection_run.proofs.Opened.{IsFew, few_in}
 

@@ -21,7 +21,7 @@ use Rattle.dependency_runner.specs.Deciding.{decide}
 use Rattle.dependency_runner.specs.declared.deciding.Decision.TheVariants.{Run}
 use Rattle.collection_run.specs.declared.cell.CellWork.{CellWork}
 use Rattle.collection_run.specs.declared.progress.Progress.{Progress}
-use Rattle.collection_run.specs.Asking.{asked, answer_to, word_of}
+use Rattle.collection_run.specs.Asking.{asked, word_of}
 use Rattle.collection_run.specs.Collections.{Caller, call_of, doc_of, cell_from, subs_from, asks_from, before}
 use Rattle.collection_run.specs.Processes.{Process, says}
 

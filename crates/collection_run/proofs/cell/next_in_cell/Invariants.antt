@@ -2,7 +2,6 @@ use Rattle.std.proofs.Common.{◌≡◌, ℕ, ◌-◌, List, length}
 use Rattle.std.specs.List.{All}
 use Rattle.doc_model.specs.declared.reply.Answer.{Answer}
 use Rattle.wire_responses.specs.Forms.{HasForm}
-use Rattle.collection_run.specs.declared.cell.CellWork.{CellWork}
 use Rattle.collection_run.specs.Collections.{Caller}
 use Rattle.collection_run.specs.Processes.{Process}
 use Rattle.collection_run.specs.Progress.{cell_with}

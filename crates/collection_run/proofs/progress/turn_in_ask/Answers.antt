@@ -1,6 +1,5 @@
-use Rattle.std.proofs.Common.{◌≡◌, ◌∙◌, ◌<◌, ◌≤◌, ◌+◌, refl, sym, ap, length, drop, ◌∷◌, [], arith}
+use Rattle.std.proofs.Common.{◌≡◌, ◌∙◌, ◌<◌, ◌≤◌, ◌+◌, refl, ap, length, drop, arith}
 use Rattle.std.proofs.lemmas.List.{drop_all}
-use Rattle.envelope_read.specs.declared.collection.SubAsk.{SubAsk}
 use Rattle.collection_run.specs.Progress.{IsAt, caller_of, doc_at}
 use Rattle.collection_run.specs.Collections.{doc_of}
 use Rattle.collection_run.specs.Turning.{BeginsAs, IsPlain}
