@@ -109,7 +109,8 @@ fn read_of_package(alloc: Global, which: Which) -> Option<usize> {
 // How many elements the put has that is read from its body.
 fn read_of_change(alloc: Global, which: Which) -> Option<usize> {
     let bytes = change(alloc, which)?;
-    match read_change(alloc, bytes.as_slice()).ok()?.sub {
+    let call = read_change(alloc, bytes.as_slice()).ok()?;
+    match &call.sub {
         Sub::Put { put } => Some(put.elements.len()),
         _ => None,
     }
