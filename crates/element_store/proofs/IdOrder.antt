@@ -1,5 +1,5 @@
 -- The order of ids.
-use Rattle.std.proofs.Common.{◌≡◌, ℕ, refl, Bool, true, false, nat_lt, nat_eq, ◌&&◌, arith}
+use Rattle.std.proofs.Common.{◌≡◌, refl, true, false, arith}
 use Rattle.std.proofs.lemmas.Bool.Decides.{nat_tests}
 use Rattle.compact_values.specs.declared.ids.ExGuid.{ExGuid}
 use Rattle.compact_values.specs.declared.ids.ExGuid.TheVariants.{Null, Id}

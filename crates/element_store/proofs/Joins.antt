@@ -1,5 +1,5 @@
 -- A place that is put among places in order.
-use Rattle.std.proofs.Common.{◌≡◌, ℕ, zero, suc, ◌+◌, ◌<◌, ◌≤◌, refl, sym, ◌∙◌, ap, Bool, true, false, cond, nat_lt, ◌&&◌, List, [], ◌∷◌, ◌++◌, length, take, drop, map, Option, Some, None, arith, if◌then◌else◌, slice_get}
+use Rattle.std.proofs.Common.{◌≡◌, ℕ, zero, suc, ◌<◌, refl, sym, ◌∙◌, ap, Bool, true, false, cond, nat_lt, ◌&&◌, List, [], ◌∷◌, ◌++◌, length, map, Option, Some, None, arith, if◌then◌else◌}
 use Rattle.std.proofs.lemmas.Bool.Decides.{nat_tests}
 use Rattle.std.specs.List.{list_all, insert}
 use Rattle.compact_values.specs.declared.ids.ExGuid.{ExGuid}
@@ -8,7 +8,7 @@ use Rattle.compact_values.specs.SameIds.{same_id}
 use Rattle.compact_values.proofs.IdPlacing.{new-joins}
 use Rattle.compact_values.proofs.SameIds.{id-same}
 use Rattle.doc_model.specs.declared.element.Element.{Element}
-use Rattle.element_store.specs.Ordered.{comes_first, id_of, id_at, are_ordered, rank_in, placed, IsOrderOf}
+use Rattle.element_store.specs.Ordered.{comes_first, id_at, are_ordered, rank_in, placed, IsOrderOf}
 use Rattle.element_store.proofs.IdOrder.{first-trans, other-first}
 use Rattle.element_store.proofs.Ranks.{both, behind}
 
@@ -182,12 +182,12 @@ module _ (es : List Element) (ps : List ℕ) (e : Element) (is : IsOrderOf es ps
       let w = with_place at (length es) ps in
       record {
         ordered =
-          ap (are_ordered at) places
-          ∙ ordered at (length es) ps (same-ordered at (id_at es) (λ p. nat_lt p (length es)) agree ps is.within ∙ is.ordered) none;
+            ap (are_ordered at) places
+            ∙ ordered at (length es) ps (same-ordered at (id_at es) (λ p. nat_lt p (length es)) agree ps is.within ∙ is.ordered) none;
         within =
-          ap (list_all (λ p. nat_lt p (length (es ++ e ∷ [])))) places
-          ∙ ap (λ k. list_all (λ p. nat_lt p k) w) (longer es e)
-          ∙ all-with at (length es) (λ p. nat_lt p (suc (length es))) ps (within-more (length es) ps is.within) (grind (arith, nat_tests));
+            ap (list_all (λ p. nat_lt p (length (es ++ e ∷ [])))) places
+            ∙ ap (λ k. list_all (λ p. nat_lt p k) w) (longer es e)
+            ∙ all-with at (length es) (λ p. nat_lt p (suc (length es))) ps (within-more (length es) ps is.within) (grind (arith, nat_tests));
         found = λ q. ap (λ qs. placed at qs q) places ∙ found-now q;
       }
 

@@ -1,12 +1,12 @@
 -- The weights that are kept.
-use Rattle.std.proofs.Common.{◌≡◌, ℕ, ◌+◌, ◌-◌, ◌^◌, ◌≤◌, refl, sym, ◌∙◌, ap, Bool, true, false, cond, nat_le, min, List, [], ◌∷◌, ◌++◌, map, sum_by, arith, All}
+use Rattle.std.proofs.Common.{◌≡◌, ℕ, ◌+◌, ◌-◌, ◌^◌, ◌≤◌, refl, sym, ◌∙◌, ap, true, cond, nat_le, min, List, [], ◌∷◌, ◌++◌, map, sum_by, arith, All}
 use Rattle.std.proofs.lemmas.Bool.Decides.{nat_tests}
 use Rattle.std.proofs.lemmas.List.Elements.{All-head, All-tail}
 use Rattle.std.proofs.lemmas.List.Sums.{sum_by-append}
 use Rattle.doc_model.specs.declared.element.Element.{Element}
 use Rattle.doc_model.specs.Limits.{most_objects}
 use Rattle.doc_model.specs.Weights.{weight, weight_of, objects_written}
-use Rattle.element_store.specs.Kept.{kept_weight, at_most_all, whole_weight}
+use Rattle.element_store.specs.Kept.{kept_weight, whole_weight}
 
 -- one element more
 kept-append : (es : List Element) (e : Element) → map kept_weight (es ++ e ∷ []) ≡ map kept_weight es ++ kept_weight e ∷ []

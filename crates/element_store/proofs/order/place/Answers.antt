@@ -18,7 +18,7 @@ returns-then-is-clause-place c =
     let l : rank_in at c.args.order.now c.args.id < length c.args.order.now = grind (arith, nat_tests, c.in-Some.ensures.lookup, c.rank.ensures.rank) in
     let same : same_id (at p) c.args.id ≡ true = ap (λ i. same_id i c.args.id) (sym c.id_at.ensures) ∙ sym c.is.ensures ∙ c.if-is.true in
     sym (placed-at at c.args.order.now c.args.id p c.requires.ordered l (c.in-Some.ensures.lookup.1 ∙ ap (λ n. get_or c.args.order.now n p) c.rank.ensures.rank)
-        ∙ ap (λ b. cond b (Some p) None) same)
+    ∙ ap (λ b. cond b (Some p) None) same)
     ∙ c.requires.found c.args.id
 
 pub returns-else-is-clause-place : goal.returns-else-is-clause-place
@@ -28,5 +28,5 @@ returns-else-is-clause-place c =
     let l : rank_in at c.args.order.now c.args.id < length c.args.order.now = grind (arith, nat_tests, c.in-Some.ensures.lookup, c.rank.ensures.rank) in
     let other : same_id (at p) c.args.id ≡ false = ap (λ i. same_id i c.args.id) (sym c.id_at.ensures) ∙ sym c.is.ensures ∙ c.if-is.false in
     sym (placed-at at c.args.order.now c.args.id p c.requires.ordered l (c.in-Some.ensures.lookup.1 ∙ ap (λ n. get_or c.args.order.now n p) c.rank.ensures.rank)
-        ∙ ap (λ b. cond b (Some p) None) other)
+    ∙ ap (λ b. cond b (Some p) None) other)
     ∙ c.requires.found c.args.id

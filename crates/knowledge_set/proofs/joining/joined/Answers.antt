@@ -15,20 +15,20 @@ loop-range-preserved c =
     let i = c.loop-range.range-index in
     record {
       maximal = elim c.if-range.branch [
-          | then-range+in_ok-join w ↦
-              ap (λ v. are_maximal v.items) w.joined-is
-              ∙ more-maximal c.loop-range.joined.items w.join.new.ranges.items _ w.in_ok-join.ensures.ok w.if-range.true c.loop-range.invariant.maximal
-          | else-range w ↦ ap (λ v. are_maximal v.items) w.joined-is ∙ c.loop-range.invariant.maximal
-        ];
+        | then-range+in_ok-join w ↦
+            ap (λ v. are_maximal v.items) w.joined-is
+            ∙ more-maximal c.loop-range.joined.items w.join.new.ranges.items _ w.in_ok-join.ensures.ok w.if-range.true c.loop-range.invariant.maximal
+        | else-range w ↦ ap (λ v. are_maximal v.items) w.joined-is ∙ c.loop-range.invariant.maximal
+      ];
       has = λ g k. elim c.if-range.branch [
-          | then-range+in_ok-join w ↦
-              ap (λ v. knows g v.items k) w.joined-is
-              ∙ one-more false c.loop-range.joined.items w.join.new.ranges.items ranges i _ _ g k
-                w.in_ok-join.ensures.ok c.loop-range.invariant.maximal w.if-range.true c.loop-range-test.true refl (c.loop-range.invariant.has g k)
-          | else-range w ↦
-              ap (λ v. knows g v.items k) w.joined-is
-              ∙ one-empty ranges i _ g k (knows g c.loop-range.joined.items k) w.if-range.false c.loop-range-test.true (c.loop-range.invariant.has g k)
-        ];
+        | then-range+in_ok-join w ↦
+            ap (λ v. knows g v.items k) w.joined-is
+            ∙ one-more false c.loop-range.joined.items w.join.new.ranges.items ranges i _ _ g k
+            w.in_ok-join.ensures.ok c.loop-range.invariant.maximal w.if-range.true c.loop-range-test.true refl (c.loop-range.invariant.has g k)
+        | else-range w ↦
+            ap (λ v. knows g v.items k) w.joined-is
+            ∙ one-empty ranges i _ g k (knows g c.loop-range.joined.items k) w.if-range.false c.loop-range-test.true (c.loop-range.invariant.has g k)
+      ];
     }
 
 -- the sorted ranges are the same

@@ -1,4 +1,4 @@
-use Rattle.std.proofs.Common.{◌≡◌, List, sym, ◌∙◌, ap, sum_by}
+use Rattle.std.proofs.Common.{List, ◌∙◌, ap, sum_by}
 use Rattle.doc_model.specs.declared.element.Element.{Element}
 use Rattle.element_store.specs.Kept.{kept_weight, at_most_all}
 use Rattle.element_store.proofs.Weighing.{whole-is}
