@@ -10,4 +10,4 @@ mod order;
 mod store;
 mod weights;
 
-pub use store::ElementStore;
+pub use store::{ElementStore, Serials};

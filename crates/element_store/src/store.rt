@@ -9,10 +9,13 @@ ghost use Rattle.element_store.specs.Stored.{serial_of};
 
 use crate::order::{place, rank};
 use crate::weights::kept_weight;
-use compact_values::{ExGuid, NoMemory};
+use compact_values::{ExGuid, NoMemory, Seq};
 use doc_model::Element;
 use std::alloc::Global;
 use std::marker::Model;
+
+/// Serial numbers of elements.
+pub type Serials = Seq<u64>;
 
 /// The elements of a document in the order of their serial numbers, which begin at 1. Contracts see them and for how many
 /// more there is room. Each is kept with its weight.
@@ -131,6 +134,13 @@ impl ElementStore {
         ensures { Some result.now ≡ slice_get self.now.elements (serial - 1) }
     {
         &self.elements[serial as usize - 1]
+    }
+
+    /// The elements in the order of their serial numbers. It takes no memory.
+    pub fn as_slice(&self) -> &[Element]
+        ensures { result.now ≡ self.now.elements }
+    {
+        self.elements.as_slice()
     }
 
     /// How many elements there are. It takes no memory.
