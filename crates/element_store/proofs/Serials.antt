@@ -1,10 +1,12 @@
 -- Serial numbers by ids, and what stands there.
-use Rattle.std.proofs.Common.{◌≡◌, ℕ, suc, ◌+◌, refl, sym, ◌∙◌, ap, Bool, true, false, cond, List, [], ◌∷◌, map, Option, Some, None, option_map, option_and_then, is_some, find, slice_get, arith}
+use Rattle.std.proofs.Common.{◌≡◌, ℕ, suc, ◌+◌, refl, sym, ◌∙◌, ap, Bool, true, false, cond, List, [], ◌∷◌, ◌++◌, map, Option, Some, None, option_map, option_and_then, is_some, find, slice_get, arith}
+use Rattle.std.specs.List.{AllByRecursion as Each, IsDistinct}
 use Rattle.compact_values.specs.declared.ids.ExGuid.{ExGuid}
 use Rattle.compact_values.specs.IdPlaces.{place_of}
 use Rattle.compact_values.specs.SameIds.{same_id}
 use Rattle.doc_model.specs.declared.element.Element.{Element}
 use Rattle.doc_model.specs.Finding.{find_element, numbered_from}
+use Rattle.doc_model.proofs.Distinct.{distinct-push}
 use Rattle.element_store.specs.Stored.{serial_of}
 
 serial-from : (n : ℕ) (es : List Element) (id : ExGuid)
@@ -51,3 +53,17 @@ place-fresh es id h = none (place_of (map (λ e. e.id) es) id) (place-there es i
     none : (o : Option ℕ) → is_some o ≡ false → o ≡ None
     none None k = refl
     none (Some p) k = cc
+
+-- an element whose id none has keeps the ids distinct
+fresh-each : (es : List Element) (e : Element) → find_element es e.id ≡ None → Each (λ x. same_id x.id e.id ≡ false) es
+fresh-each [] e h = tt
+fresh-each (x ∷ es) e h = by_test (same_id x.id e.id) refl (fresh-each es e) h
+  where
+    by_test : (b : Bool) → same_id x.id e.id ≡ b → (find_element es e.id ≡ None → Each (λ y. same_id y.id e.id ≡ false) es)
+        → cond b (Some x) (find_element es e.id) ≡ None → Each (λ y. same_id y.id e.id ≡ false) (x ∷ es)
+    by_test true k rest q = cc
+    by_test false k rest q = (k, rest q)
+
+pub distinct-more : (after es : List Element) (e : Element) → after ≡ es ++ e ∷ [] → IsDistinct same_id (map (λ x. x.id) es) → find_element es e.id ≡ None
+    → IsDistinct same_id (map (λ x. x.id) after)
+distinct-more after es e a d h = rw a (distinct-push same_id (λ x. x.id) es e d (fresh-each es e h))

@@ -1,6 +1,7 @@
 // The elements of a document, found by their serial numbers and by their ids.
-ghost use Rattle.std.specs.Prelude.{◌≡◌, ◌+◌, ◌-◌, ◌<◌, ◌≤◌, [], ◌∷◌, ◌++◌, length, None, Some, OnOk, IfSome, slice_get, vec_len, vec_capacity, is_some, get_or};
-ghost use Rattle.std.specs.List.{All, insert};
+ghost use Rattle.std.specs.Prelude.{◌≡◌, ◌+◌, ◌-◌, ◌<◌, ◌≤◌, [], ◌∷◌, ◌++◌, length, map, None, Some, OnOk, IfSome, slice_get, vec_len, vec_capacity, is_some, get_or};
+ghost use Rattle.std.specs.List.{All, IsDistinct, insert};
+ghost use Rattle.compact_values.specs.SameIds.{same_id};
 ghost use Rattle.doc_model.specs.Finding.{find_element};
 ghost use Rattle.doc_model.specs.Limits.{most_objects};
 ghost use Rattle.doc_model.specs.Weights.{weight, weight_of, objects_written};
@@ -33,6 +34,8 @@ pub struct ElementStore {
 
 impl Model for ElementStore {
     ghost use Rattle.std.specs.Prelude.{◌≡◌, ◌-◌, min, map, vec_len, vec_capacity};
+    ghost use Rattle.std.specs.List.{IsDistinct};
+    ghost use Rattle.compact_values.specs.SameIds.{same_id};
     ghost use Rattle.element_store.specs.Kept.{kept_weight, whole_weight};
     ghost use Rattle.element_store.specs.Ordered.{IsOrderOf};
     ghost use Rattle.element_store.specs.Stored.{Stored};
@@ -41,7 +44,7 @@ impl Model for ElementStore {
 
     ghost view = { λ s. record { elements = s.elements.items; spare = min (vec_capacity s.elements - vec_len s.elements) (min (vec_capacity s.weights - vec_len s.weights) (vec_capacity s.order - vec_len s.order)) } };
 
-    ghost invariant = { λ s. IsOrderOf s.elements.items s.order.items × (s.weights.items ≡ map kept_weight s.elements.items) × (s.whole ≡ whole_weight s.elements.items) };
+    ghost invariant = { λ s. IsOrderOf s.elements.items s.order.items × (s.weights.items ≡ map kept_weight s.elements.items) × (s.whole ≡ whole_weight s.elements.items) × IsDistinct same_id (map (λ e. e.id) s.elements.items) };
 }
 
 // Adds an item for which there is room, and takes no memory.
@@ -119,6 +122,7 @@ impl ElementStore {
     pub fn find(&self, id: &ExGuid) -> Option<u64>
         ensures serial { result ≡ serial_of self.now.elements id.now }
         ensures there { is_some result ≡ is_some (find_element self.now.elements id.now) }
+        ensures within { IfSome result (λ serial. (1 ≤ serial) × (serial ≤ length self.now.elements)) }
         ensures element { IfSome result (λ serial. slice_get self.now.elements (serial - 1) ≡ find_element self.now.elements id.now) }
     {
         match place(self.elements.as_slice(), self.order.as_slice(), *id) {
@@ -136,9 +140,10 @@ impl ElementStore {
         &self.elements[serial as usize - 1]
     }
 
-    /// The elements in the order of their serial numbers. It takes no memory.
+    /// The elements in the order of their serial numbers. Their ids differ. It takes no memory.
     pub fn as_slice(&self) -> &[Element]
-        ensures { result.now ≡ self.now.elements }
+        ensures elements { result.now ≡ self.now.elements }
+        ensures distinct { IsDistinct same_id (map (λ e. e.id) self.now.elements) }
     {
         self.elements.as_slice()
     }

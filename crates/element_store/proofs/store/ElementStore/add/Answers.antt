@@ -4,7 +4,7 @@ use Rattle.doc_model.specs.Finding.{find_element}
 use Rattle.element_store.specs.Kept.{kept_weight, whole_weight}
 use Rattle.element_store.specs.Ordered.{id_at, rank_in}
 use Rattle.element_store.proofs.Joins.{grown-at}
-use Rattle.element_store.proofs.Serials.{place-fresh}
+use Rattle.element_store.proofs.Serials.{place-fresh, distinct-more}
 use Rattle.element_store.proofs.Weighing.{kept-more, whole-more}
 use Rattle.element_store.proofs.store.ElementStore.add.Goals as goal
 
@@ -14,8 +14,8 @@ invariant_of-self c =
     let es = c.self.inside.elements.items in
     let ps = c.self.inside.order.items in
     let e = c.args.element in
-    let fresh : place_of (map (λ x. x.id) es) e.id ≡ None =
-    place-fresh es e.id (ap (λ xs. find_element xs e.id) (ap (λ s. s.elements) c.self.view_is) ∙ c.requires.fresh) in (
+    let new : find_element es e.id ≡ None = ap (λ xs. find_element xs e.id) (ap (λ s. s.elements) c.self.view_is) ∙ c.requires.fresh in
+    let fresh : place_of (map (λ x. x.id) es) e.id ≡ None = place-fresh es e.id new in (
       grown-at es c.push_within-2.new.items.items ps c.insert_within.new.places.items e c.rank-rank.result c.len-place.result c.self.invariant.0 fresh
           c.push_within-2.ensures.items
           c.insert_within.ensures.items
@@ -27,4 +27,5 @@ invariant_of-self c =
           ∙ ap (map kept_weight) (sym c.push_within-2.ensures.items)),
       (whole-more c.saturating_add-self-inside.result c.self.inside.whole es e c.kept_weight-weight.result c.saturating_add-self-inside.ensures c.self.invariant.2 c.kept_weight-weight.ensures
           ∙ ap whole_weight (sym c.push_within-2.ensures.items)),
+      distinct-more c.push_within-2.new.items.items es e c.push_within-2.ensures.items c.self.invariant.3 new,
     )

@@ -1,0 +1,9 @@
+pub mod AlongBases
+pub mod LinkSteps
+pub mod FoundPlaces
+pub mod ChainSteps
+pub mod ChainLengths
+pub mod KeyedCells
+pub mod Rising
+pub mod Serials
+pub mod Answering

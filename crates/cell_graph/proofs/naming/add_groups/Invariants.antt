@@ -1,0 +1,8 @@
+use Rattle.std.proofs.Common.{◌≡◌, ◌++◌, drop, map}
+use Rattle.doc_model.specs.Reached.{group_name}
+use Rattle.cell_graph.specs.Cataloging.{listed}
+use Rattle.cell_graph.proofs.naming.add_groups.Given as goal
+
+-- what is there, and what is still to be done
+abbrev pub invariant-loop-group : goal.invariant-loop-group
+invariant-loop-group l = l.all ++ map (group_name (listed l.catalog)) (drop l.group-index l.groups) ≡ l.fn.all ++ map (group_name (listed l.catalog)) l.groups

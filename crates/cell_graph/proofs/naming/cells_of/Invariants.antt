@@ -1,0 +1,8 @@
+use Rattle.std.proofs.Common.{◌≡◌, drop, fold}
+use Rattle.doc_model.specs.Reached.{same_cells}
+use Rattle.doc_model.specs.Finding.{firsts, with_new}
+use Rattle.cell_graph.proofs.naming.cells_of.Given as goal
+
+-- what is there, and what is still to be done
+abbrev pub invariant-loop-c : goal.invariant-loop-c
+invariant-loop-c l = fold (with_new same_cells) l.once (drop l.c-index l.cells) ≡ firsts same_cells l.cells

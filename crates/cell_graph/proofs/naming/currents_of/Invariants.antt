@@ -1,0 +1,8 @@
+use Rattle.std.proofs.Common.{◌≡◌, ◌++◌, drop, map}
+use Rattle.doc_model.specs.Reached.{current_of}
+use Rattle.cell_graph.specs.Cataloging.{listed}
+use Rattle.cell_graph.proofs.naming.currents_of.Given as goal
+
+-- what is there, and what is still to be done
+abbrev pub invariant-loop-c : goal.invariant-loop-c
+invariant-loop-c l = l.ids ++ map (current_of (listed l.catalog)) (drop l.c-index l.cells) ≡ map (current_of (listed l.catalog)) l.cells
