@@ -7,3 +7,4 @@ pub mod KeyedCells
 pub mod Rising
 pub mod Serials
 pub mod Answering
+pub mod Fronts

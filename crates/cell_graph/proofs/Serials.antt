@@ -3,16 +3,20 @@ use Rattle.std.proofs.Common.{◌≡◌, ℕ, ◌+◌, ◌<◌, ◌≤◌, refl,
 use Rattle.std.proofs.lemmas.Bool.Decides.{nat_tests}
 use Rattle.std.specs.List.{AllByRecursion as Each, IsDistinct, list_any}
 use Rattle.std.specs.List.Sorted.{IsStrictlySortedBy}
-use Rattle.std.specs.Ordering.{nat_cmp}
+use Rattle.std.specs.Ordering.{is_eq, nat_cmp}
 use Rattle.std.specs.declared.cmp.Ordering.TheVariants.{Less}
 use Rattle.compact_values.specs.declared.ids.ExGuid.{ExGuid}
 use Rattle.compact_values.specs.SameIds.{same_id}
 use Rattle.compact_values.proofs.SameIds.{id-same, id-swap}
 use Rattle.doc_model.specs.declared.element.Element.{Element}
+use Rattle.doc_model.specs.declared.element.Name.{Name}
 use Rattle.doc_model.specs.declared.element.NumberedElement.{NumberedElement}
 use Rattle.doc_model.specs.Finding.{numbered_from}
 use Rattle.doc_model.specs.Reached.{is_among}
+use Rattle.element_store.specs.Stored.{serial_of}
 use Rattle.cell_graph.specs.Noting.{noted}
+use Rattle.cell_graph.specs.Reaching.{serials_among}
+use Rattle.cell_graph.proofs.Rising.{rising-same}
 
 abbrev kept : List ExGuid → NumberedElement → Bool
 kept ids n = is_among ids n.element.id
@@ -115,3 +119,21 @@ members ids n (e ∷ es) k d =
 
     each : (id : ExGuid) → noted k (serial_from n (e ∷ es) id) ≡ ((same_id e.id id && nat_eq k n) || noted k (serial_from (n + 1) es id))
     each id = one id (same_id e.id id) refl
+
+-- a set of numbers that has just the serial numbers of what is named
+contained : (q : ℕ) (ks : List ℕ) → list_any (λ k. is_eq (nat_cmp q k)) ks ≡ list_any (nat_eq q) ks
+contained q [] = refl
+contained q (k ∷ ks) = ap (λ b. b || list_any (λ x. is_eq (nat_cmp q x)) ks) (one q k) ∙ ap (λ b. nat_eq q k || b) (contained q ks)
+  where
+    one : (a b : ℕ) → is_eq (nat_cmp a b) ≡ nat_eq a b
+    one a b = grind (arith, nat_tests)
+
+any-id : (f : ExGuid → Bool) (ns : List Name) → list_any (λ n. f n.id) ns ≡ list_any f (map (λ n. n.id) ns)
+any-id f [] = refl
+any-id f (n ∷ ns) = ap (λ b. f n.id || b) (any-id f ns)
+
+pub all-serials : (es : List Element) (named : List Name) (ks : List ℕ) → IsStrictlySortedBy nat_cmp ks → IsDistinct same_id (map (λ e. e.id) es)
+    → ((q : ℕ) → list_any (λ k. is_eq (nat_cmp q k)) ks ≡ list_any (λ n. noted q (serial_of es n.id)) named) → ks ≡ serials_among es (map (λ n. n.id) named)
+all-serials es named ks rise distinct has =
+    rising-same ks (serials_among es (map (λ n. n.id) named)) rise (rising (map (λ n. n.id) named) 1 es)
+    (λ q. sym (contained q ks) ∙ has q ∙ any-id (λ id. noted q (serial_of es id)) named ∙ sym (members (map (λ n. n.id) named) 1 es q distinct))
