@@ -1,0 +1,5 @@
+pub mod IdOrder
+pub mod Ranks
+pub mod Joins
+pub mod Serials
+pub mod Weighing

@@ -1,0 +1,4 @@
+pub mod Apart
+pub mod Placing
+pub mod Joins
+pub mod OneList
