@@ -84,7 +84,14 @@ fn ids_are_found(rt: HostRuntime) -> Result<(), Fail> {
         &[ExGuid::Null],
         &[id(A, 1), id(A, 2), id(A, 3)],
         &[id(B, 3), id(B, 2), id(A, 3), id(B, 1), id(A, 2), id(A, 1)],
-        &[id(A, 2), ExGuid::Null, id(B, 2), id(A, 9), id(B, 0), id(A, 0)],
+        &[
+            id(A, 2),
+            ExGuid::Null,
+            id(B, 2),
+            id(A, 9),
+            id(B, 0),
+            id(A, 0),
+        ],
     ];
     for ids in rows.iter() {
         let mut store = store_of(&rt, alloc, ids)?;
