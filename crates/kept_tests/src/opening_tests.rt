@@ -1,6 +1,7 @@
 // Documents that are opened again, and journals that are no document's.
-use crate::test_documents::{G, body, call, create, is_answered, reopen, submit};
+use crate::test_documents::{G, call, create, is_answered, reopen, submit};
 use cell_journal::{Frame, Journal};
+use change_record::{can_move, write_change};
 use compact_values::{Guid, Octets, Text};
 use doc_model::{EditorStep, LockStep, Sub};
 use host_edge::MemDisk;
@@ -86,6 +87,14 @@ fn journal(alloc: Global, bodies: &[&[u8]]) -> Option<Octets> {
     }
     let disk = journal.into_disk();
     disk.left_by_crash(alloc, disk.calls().len(), &[]).ok()
+}
+
+fn body(alloc: Global, sub: Sub) -> Option<Octets> {
+    let call = call(alloc, 100, sub)?;
+    if !can_move(&call.sub) {
+        return None;
+    }
+    write_change(alloc, &call).ok()
 }
 
 #[test]

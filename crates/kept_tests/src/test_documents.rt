@@ -6,7 +6,7 @@ ghost use Rattle.change_record.specs.Changes.{IsShort};
 use cell_journal::Reading;
 use change_record::limits::MOST_BODY;
 use change_record::{can_move, is_valid, write_change};
-use compact_values::{Guid, Octets, Text};
+use compact_values::{Guid, Text};
 use doc_model::{Call, Sub, Submitted};
 use host_edge::{Disk, MemDisk};
 use journaled_doc::{JournaledDoc, OpenFault};
@@ -22,9 +22,9 @@ pub const G: Guid = Guid {
 };
 
 /// The bytes that are written on a disk in all, and its calls.
-const ROOM: usize = 1_048_576;
+const ROOM: usize = 4096;
 
-const CALLS: usize = 2048;
+const CALLS: usize = 64;
 
 /// A new document, on a disk whose calls with these numbers fail. None where one of them is a call of its creation.
 pub fn create(alloc: Global, fail: &[u64]) -> Option<Kept> {
@@ -55,15 +55,6 @@ fn is_short(alloc: Global, call: &Call) -> bool
         Ok(body) => body.len() <= MOST_BODY,
         Err(_) => false,
     }
-}
-
-/// The body of a change of Anna's. None where what is asked changes nothing.
-pub fn body(alloc: Global, sub: Sub) -> Option<Octets> {
-    let call = call(alloc, 100, sub)?;
-    if !can_move(&call.sub) {
-        return None;
-    }
-    write_change(alloc, &call).ok()
 }
 
 /// Makes a call as this caller. None where it may not be made.
