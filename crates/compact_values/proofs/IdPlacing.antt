@@ -8,7 +8,7 @@ use Rattle.std.specs.Ordering.{is_eq, nat_cmp, ordering_then}
 use Rattle.std.specs.Option.{option_or}
 use Rattle.compact_values.specs.declared.ids.ExGuid.{ExGuid}
 use Rattle.compact_values.specs.declared.ids.ExGuid.TheVariants.{Null, Id}
-use Rattle.compact_values.specs.IdPlaces.{place_of, key_of, key_order}
+use Rattle.compact_values.specs.IdPlaces.{place_of, key_of, key_order, with_new}
 use Rattle.compact_values.specs.SameIds.{same_id}
 use Rattle.compact_values.proofs.SameIds.{id-same, id-swap}
 
@@ -93,10 +93,22 @@ place-among (x ∷ xs) id = by_test (same_id x id) (same_id id x) (place_of xs i
     by_test false c (Some k) e later = rw (sym e) later
 
 -- where the id was there already, its first place is put back
-pub first-stays : (xs : List ExGuid) (y q : ExGuid) (first here : ℕ) → place_of xs y ≡ Some first
-    → cond (same_id y q) (Some first) (cond (same_id y q) (Some here) (place_of xs q)) ≡ place_of (xs ++ y ∷ []) q
-first-stays xs y q first here known = by_test (same_id y q) refl ∙ sym (known-stays xs y q (ap is_some known))
+pub first-kept : (xs : List ExGuid) (y q : ExGuid) (first here : ℕ) → place_of xs y ≡ Some first
+    → cond (same_id y q) (Some first) (cond (same_id y q) (Some here) (place_of xs q)) ≡ place_of xs q
+first-kept xs y q first here known = by_test (same_id y q) refl
   where
     by_test : (b : Bool) → same_id y q ≡ b → cond (same_id y q) (Some first) (cond (same_id y q) (Some here) (place_of xs q)) ≡ place_of xs q
     by_test true e = rw e (sym known ∙ ap (place_of xs) (id-same y q e))
     by_test false e = rw e refl
+
+-- and so it is where it stands once more at the end
+pub first-stays : (xs : List ExGuid) (y q : ExGuid) (first here : ℕ) → place_of xs y ≡ Some first
+    → cond (same_id y q) (Some first) (cond (same_id y q) (Some here) (place_of xs q)) ≡ place_of (xs ++ y ∷ []) q
+first-stays xs y q first here known = first-kept xs y q first here known ∙ sym (known-stays xs y q (ap is_some known))
+
+-- what isn't in the list joins it, and what is doesn't
+pub joins-new : (xs : List ExGuid) (id : ExGuid) → place_of xs id ≡ None → with_new same_id xs id ≡ xs ++ id ∷ []
+joins-new xs id new = ap (λ b. cond b xs (xs ++ id ∷ [])) (sym (place-among xs id) ∙ ap is_some new)
+
+pub joins-known : (xs : List ExGuid) (id : ExGuid) (first : ℕ) → place_of xs id ≡ Some first → with_new same_id xs id ≡ xs
+joins-known xs id first known = ap (λ b. cond b xs (xs ++ id ∷ [])) (sym (place-among xs id) ∙ ap is_some known)

@@ -1,5 +1,6 @@
 -- Where an extended GUID stands in a list.
-use Rattle.std.specs.Prelude.{◌≡◌, ℕ, suc, if◌then◌else◌, List, [], ◌∷◌, Option, Some, None, option_map}
+use Rattle.std.specs.Prelude.{◌≡◌, ℕ, suc, Bool, if◌then◌else◌, List, [], ◌∷◌, ◌++◌, Option, Some, None, option_map}
+use Rattle.std.specs.List.{list_any}
 use Rattle.std.specs.BTreeMap.{BTreeMap, get}
 use Rattle.std.specs.Option.{option_cmp}
 use Rattle.std.specs.declared.cmp.Ordering.{Ordering}
@@ -7,6 +8,10 @@ use Rattle.std.specs.Ordering.{nat_cmp, ordering_then}
 use Rattle.compact_values.specs.declared.ids.ExGuid.{ExGuid}
 use Rattle.compact_values.specs.declared.ids.ExGuid.TheVariants.{Null, Id}
 use Rattle.compact_values.specs.SameIds.{same_id}
+
+-- a list with one more item at its end, unless one is there that is like it
+abbrev pub with_new : {X : Type 0} → (X → X → Bool) → List X → X → List X
+with_new alike kept x = if list_any (alike x) kept then kept else kept ++ x ∷ []
 
 -- the first place of the id
 abbrev pub place_of : List ExGuid → ExGuid → Option ℕ

@@ -1,7 +1,7 @@
 // A list of extended GUIDs that finds an id without looking through the list.
-ghost use Rattle.std.specs.Prelude.{◌≡◌, [], ◌∷◌, ◌++◌, OnOk, OnErr};
+ghost use Rattle.std.specs.Prelude.{◌≡◌, [], ◌∷◌, ◌++◌, OnOk, OnErr, fold};
 ghost use Rattle.std.specs.List.{list_any};
-ghost use Rattle.compact_values.specs.IdPlaces.{place_of, key_of};
+ghost use Rattle.compact_values.specs.IdPlaces.{place_of, key_of, with_new};
 ghost use Rattle.compact_values.specs.SameIds.{same_id};
 
 use crate::fault::NoMemory;
@@ -97,5 +97,39 @@ impl IdIndex {
                 Err(NoMemory)
             }
         }
+    }
+
+    /// Adds the id at the end unless it is there, or leaves the list as it was. A new id is looked for once.
+    pub fn join(&mut self, id: ExGuid) -> Result<(), NoMemory>
+        ensures ok { OnOk result (self.new ≡ with_new same_id self.old id) }
+        ensures err { OnErr result (self.new ≡ self.old) }
+    {
+        let place = self.ids.len();
+        self.ids.push(id)?;
+        let key = key_of(id);
+        match self.places.insert(key, place) {
+            Ok(None) => Ok(()),
+            Ok(Some(first)) => {
+                self.ids.truncate(place);
+                match self.places.insert(key, first) {
+                    Ok(_) => Ok(()),
+                    Err(_) => unreachable!(),
+                }
+            }
+            Err(_) => {
+                self.ids.truncate(place);
+                Err(NoMemory)
+            }
+        }
+    }
+
+    /// Adds those of the ids that aren't there, in order.
+    pub fn join_all(&mut self, ids: &[ExGuid]) -> Result<(), NoMemory>
+        ensures { OnOk result (self.new ≡ fold (with_new same_id) self.old ids.now) }
+    {
+        for id in ids {
+            self.join(*id)?;
+        }
+        Ok(())
     }
 }

@@ -2,7 +2,7 @@
 use Rattle.std.proofs.Common.{◌≡◌, refl, sym, ◌∙◌, ap, subst, Bool, true, false, cond, ◌||◌, List, [], ◌∷◌, ◌++◌, find, fold, Some}
 use Rattle.std.specs.List.{AllByRecursion as Each, list_any}
 use Rattle.std.proofs.lemmas.Bool.{false≢true}
-use Rattle.doc_model.specs.Finding.{with_new}
+use Rattle.compact_values.specs.IdPlaces.{with_new}
 use Rattle.doc_model.proofs.EachItem.{each-front, each-back}
 
 -- what is found first is found among those that differ, where the test tells alike items alike

@@ -8,7 +8,7 @@ use Rattle.std.proofs.lemmas.List.Folds.{find-append}
 use Rattle.compact_values.specs.declared.ids.ExGuid.{ExGuid}
 use Rattle.compact_values.specs.SameIds.{same_id}
 use Rattle.compact_values.proofs.SameIds.{id-same, same-id}
-use Rattle.doc_model.specs.Finding.{with_new}
+use Rattle.compact_values.specs.IdPlaces.{with_new}
 use Rattle.doc_model.specs.Reached.{each_once, is_among}
 use Rattle.doc_model.proofs.EachItem.{each-front, each-flat}
 

@@ -1,7 +1,7 @@
 -- The elements of a document: what stands under an id, by the kind that a place needs.
-use Rattle.std.specs.Prelude.{ℕ, ◌+◌, Bool, if◌then◌else◌, List, [], ◌∷◌, ◌++◌, find, fold, Option, None, Some, option_and_then}
-use Rattle.std.specs.List.{list_any}
+use Rattle.std.specs.Prelude.{ℕ, ◌+◌, Bool, List, [], ◌∷◌, find, fold, Option, None, Some, option_and_then}
 use Rattle.compact_values.specs.declared.ids.ExGuid.{ExGuid}
+use Rattle.compact_values.specs.IdPlaces.{with_new}
 use Rattle.compact_values.specs.SameIds.{same_id}
 use Rattle.doc_model.specs.declared.element.Element.{Element}
 use Rattle.doc_model.specs.declared.element.Body.{Body}
@@ -67,9 +67,6 @@ abbrev pub first : {X : Type 0} → List X → Option X
 first [] = None
 first (x ∷ xs) = Some x
 
--- of items that are alike the first one alone: each joins those before it, unless it is like one of them
-abbrev pub with_new : {X : Type 0} → (X → X → Bool) → List X → X → List X
-with_new alike kept x = if list_any (alike x) kept then kept else kept ++ x ∷ []
-
+-- of items that are alike the first one alone
 abbrev pub firsts : {X : Type 0} → (X → X → Bool) → List X → List X
 firsts alike xs = fold (with_new alike) [] xs

@@ -8,7 +8,8 @@ use Rattle.compact_values.specs.SameIds.{same_id}
 use Rattle.compact_values.proofs.SameIds.{id-same, same-id}
 use Rattle.doc_model.specs.declared.element.Element.{Element}
 use Rattle.doc_model.specs.declared.element.RevisionMap.{RevisionMap}
-use Rattle.doc_model.specs.Finding.{Manifest, as_revision, said, with_new}
+use Rattle.compact_values.specs.IdPlaces.{with_new}
+use Rattle.doc_model.specs.Finding.{Manifest, as_revision, said}
 use Rattle.doc_model.specs.Reached.{named_along, manifest_of, mapping_of, base_of, enough, is_among}
 use Rattle.doc_model.proofs.EachItem.{each-append, each-as, each-all, all-each}
 use Rattle.doc_model.proofs.Once.{among-each, among-last, none-join, joining}

@@ -8,7 +8,7 @@ use Rattle.compact_values.specs.declared.ids.ExGuid.{ExGuid}
 use Rattle.compact_values.specs.SameIds.{same_id}
 use Rattle.compact_values.proofs.SameIds.{id-same}
 use Rattle.doc_model.specs.declared.element.Element.{Element}
-use Rattle.doc_model.specs.Finding.{with_new}
+use Rattle.compact_values.specs.IdPlaces.{with_new}
 use Rattle.doc_model.specs.Puts.{same_ids, is_new, grown}
 
 module _ (added : List Element) where

@@ -3,7 +3,8 @@ ghost use Rattle.std.specs.Prelude.{◌≡◌, [], ◌∷◌, ◌++◌, map, fol
 ghost use Rattle.std.specs.List.{list_any};
 ghost use Rattle.compact_values.specs.SameIds.{same_id};
 ghost use Rattle.doc_model.specs.Puts.{same_ids};
-ghost use Rattle.doc_model.specs.Finding.{find_element, with_new, said, as_storage, as_cell, as_group, as_blob, as_index, as_revision};
+ghost use Rattle.compact_values.specs.IdPlaces.{with_new};
+ghost use Rattle.doc_model.specs.Finding.{find_element, said, as_storage, as_cell, as_group, as_blob, as_index, as_revision};
 
 use crate::sayings::{Manifest, Mappings};
 use compact_values::{Copied, ExGuid, IdIndex, NoMemory, Octets, Seq};

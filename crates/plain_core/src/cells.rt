@@ -1,6 +1,6 @@
 // Mappings of cells, each cell once.
 ghost use Rattle.std.specs.Prelude.{◌≡◌, [], OnOk};
-ghost use Rattle.doc_model.specs.Finding.{with_new};
+ghost use Rattle.compact_values.specs.IdPlaces.{with_new};
 ghost use Rattle.doc_model.specs.Reached.{same_cells};
 
 use crate::keys::cell_key;

@@ -6,9 +6,8 @@ ghost use Rattle.plain_core.specs.Filing.{stored, groups_named, objects_in};
 ghost use Rattle.plain_core.specs.Sayings.{seen_manifest};
 
 use crate::catalog::Catalog;
-use crate::once::Once;
 use crate::sayings::Manifest;
-use compact_values::{ExGuid, NoMemory, Octets};
+use compact_values::{ExGuid, IdIndex, NoMemory, Octets};
 use doc_model::{Content, Object};
 use file_nodes::ObjectMap;
 use std::alloc::Global;
@@ -26,10 +25,10 @@ pub fn root_object(manifests: &[Manifest<'_>]) -> Option<ExGuid>
 }
 
 // The groups that these revisions name, each once.
-fn groups_named(alloc: Global, manifests: &[Manifest<'_>]) -> Result<Once, NoMemory>
+fn groups_named(alloc: Global, manifests: &[Manifest<'_>]) -> Result<IdIndex, NoMemory>
     ensures { IfOk result (λ groups. groups ≡ groups_named (map seen_manifest manifests.now)) }
 {
-    let mut groups = Once::new(alloc);
+    let mut groups = IdIndex::new(alloc);
     for manifest in manifests {
         groups.join_all(manifest.groups.as_slice())?;
     }

@@ -12,7 +12,6 @@
 //! - `known`: which serials a client knows
 //! - `links`: the revisions, groups and blobs that an index names, each once
 //! - `naming`: what an index names
-//! - `once`: a list of ids, each of them once
 //! - `plain`: the document, its plans and what settles them
 //! - `plan_edit`: planning a step of the table of editors
 //! - `plan_lock`: planning a step of the lock
@@ -42,7 +41,6 @@ mod keys;
 mod known;
 mod links;
 mod naming;
-mod once;
 mod plain;
 mod plan_edit;
 mod plan_lock;

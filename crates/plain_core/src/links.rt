@@ -1,15 +1,14 @@
 // The revisions, groups and blobs that an index names, each of them once.
 ghost use Rattle.std.specs.Prelude.{◌≡◌, [], true, IfOk, OnOk, fold, flat_map};
 ghost use Rattle.compact_values.specs.SameIds.{same_id};
-ghost use Rattle.doc_model.specs.Finding.{with_new};
+ghost use Rattle.compact_values.specs.IdPlaces.{with_new};
 ghost use Rattle.doc_model.specs.Reached.{blob_of, blobs_of, each_once, enough, groups_by, mapping_of, named_along, named_blobs, named_groups, named_revisions};
 ghost use Rattle.plain_core.specs.Cataloging.{listed};
 ghost use Rattle.plain_core.specs.Naming.{groups_in, is_closed, targets_by};
 
 use crate::catalog::Catalog;
-use crate::once::Once;
 use crate::revisions::Revisions;
-use compact_values::{ExGuid, NoMemory};
+use compact_values::{ExGuid, IdIndex, NoMemory};
 use doc_model::limits::MOST_REVISIONS;
 use doc_model::{Content, Object};
 use std::alloc::Global;
@@ -18,7 +17,7 @@ use std::alloc::Global;
 fn name_along(
     catalog: &Catalog<'_>,
     revisions: &Revisions<'_>,
-    named: &mut Once,
+    named: &mut IdIndex,
     revision: ExGuid,
 ) -> Result<(), NoMemory>
     requires { is_closed (listed catalog.now) revisions.now.maps.now named.old ≡ true }
@@ -49,10 +48,10 @@ pub fn name_revisions(
     catalog: &Catalog<'_>,
     revisions: &Revisions<'_>,
     currents: &[ExGuid],
-) -> Result<Once, NoMemory>
+) -> Result<IdIndex, NoMemory>
     ensures { IfOk result (λ named. named ≡ named_revisions (listed catalog.now) revisions.now.maps.now currents.now) }
 {
-    let mut named = Once::new(alloc);
+    let mut named = IdIndex::new(alloc);
     for current in currents {
         name_along(catalog, revisions, &mut named, *current)?;
     }
@@ -60,10 +59,10 @@ pub fn name_revisions(
 }
 
 // The manifests to which these revisions are mapped.
-fn targets_of(alloc: Global, revisions: &Revisions<'_>, named: &[ExGuid]) -> Result<Once, NoMemory>
+fn targets_of(alloc: Global, revisions: &Revisions<'_>, named: &[ExGuid]) -> Result<IdIndex, NoMemory>
     ensures { IfOk result (λ targets. targets ≡ each_once (flat_map (λ r. targets_by (mapping_of revisions.now.maps.now r)) named.now)) }
 {
-    let mut targets = Once::new(alloc);
+    let mut targets = IdIndex::new(alloc);
     for revision in named {
         match revisions.mapping(*revision) {
             None => {}
@@ -74,10 +73,10 @@ fn targets_of(alloc: Global, revisions: &Revisions<'_>, named: &[ExGuid]) -> Res
 }
 
 // The groups that these manifests name.
-fn groups_of(alloc: Global, catalog: &Catalog<'_>, targets: &[ExGuid]) -> Result<Once, NoMemory>
+fn groups_of(alloc: Global, catalog: &Catalog<'_>, targets: &[ExGuid]) -> Result<IdIndex, NoMemory>
     ensures { IfOk result (λ groups. groups ≡ each_once (flat_map (groups_in (listed catalog.now)) targets.now)) }
 {
-    let mut groups = Once::new(alloc);
+    let mut groups = IdIndex::new(alloc);
     for target in targets {
         match catalog.revision_at(*target) {
             None => {}
@@ -93,7 +92,7 @@ pub fn name_groups(
     catalog: &Catalog<'_>,
     revisions: &Revisions<'_>,
     named: &[ExGuid],
-) -> Result<Once, NoMemory>
+) -> Result<IdIndex, NoMemory>
     ensures { IfOk result (λ groups. groups ≡ named_groups (listed catalog.now) revisions.now.maps.now named.now) }
 {
     let targets = targets_of(alloc, revisions, named)?;
@@ -102,7 +101,7 @@ pub fn name_groups(
 }
 
 // Names the blobs that a group's objects name.
-fn name_blobs_of(objects: &[Object], blobs: &mut Once) -> Result<(), NoMemory>
+fn name_blobs_of(objects: &[Object], blobs: &mut IdIndex) -> Result<(), NoMemory>
     ensures { OnOk result (blobs.new ≡ fold (with_new same_id) blobs.old (flat_map (λ o. blob_of o.content) objects.now)) }
 {
     for object in objects {
@@ -115,10 +114,10 @@ fn name_blobs_of(objects: &[Object], blobs: &mut Once) -> Result<(), NoMemory>
 }
 
 /// The blobs that these groups name.
-pub fn name_blobs(alloc: Global, catalog: &Catalog<'_>, groups: &[ExGuid]) -> Result<Once, NoMemory>
+pub fn name_blobs(alloc: Global, catalog: &Catalog<'_>, groups: &[ExGuid]) -> Result<IdIndex, NoMemory>
     ensures { IfOk result (λ blobs. blobs ≡ named_blobs (listed catalog.now) groups.now) }
 {
-    let mut blobs = Once::new(alloc);
+    let mut blobs = IdIndex::new(alloc);
     for group in groups {
         match catalog.group_at(*group) {
             None => {}

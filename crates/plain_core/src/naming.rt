@@ -1,7 +1,8 @@
 // What an index names, in the order of naming.
 ghost use Rattle.std.specs.Prelude.{◌≡◌, ◌+◌, ◌<◌, ◌^◌, [], ◌∷◌, ◌++◌, Some, IfOk, OnOk, length, map, fold, flat_map, take, option_map, unwrap_or, option_copied, find, is_some};
 ghost use Rattle.std.specs.List.{list_any};
-ghost use Rattle.doc_model.specs.Finding.{said, firsts, with_new, as_index, as_storage, as_cell, as_group, as_blob};
+ghost use Rattle.compact_values.specs.IdPlaces.{with_new};
+ghost use Rattle.doc_model.specs.Finding.{said, firsts, as_index, as_storage, as_cell, as_group, as_blob};
 ghost use Rattle.doc_model.specs.Reached.{manifest_of, base_of, named_along, enough, named_revisions, name, revision_name, mapping_of, groups_of, blobs_of, blob_of, same_cells, cells_of, current_of, currents_of, storage_name, cell_name, group_name, blob_name, names_below, names};
 ghost use Rattle.plain_core.specs.Cataloging.{listed};
 ghost use Rattle.plain_core.specs.Naming.{IsBelow, names_of};
@@ -10,10 +11,9 @@ ghost use Rattle.plain_core.specs.Sayings.{seen_mappings, seen_manifest};
 use crate::catalog::Catalog;
 use crate::cells::CellsOnce;
 use crate::links::{name_blobs, name_groups, name_revisions};
-use crate::once::Once;
 use crate::revisions::Revisions;
 use crate::sayings::Mappings;
-use compact_values::{ExGuid, Ids, NoMemory, Seq};
+use compact_values::{ExGuid, IdIndex, Ids, NoMemory, Seq};
 use doc_model::{CellMap, CellMaps, ManifestMap, Name, Namings};
 use std::alloc::Global;
 
@@ -157,9 +157,9 @@ fn add_blobs(catalog: &Catalog<'_>, blobs: &[ExGuid], all: &mut Namings) -> Resu
 struct Below<'a> {
     revisions: Revisions<'a>,
     cells: CellMaps,
-    named: Once,
-    groups: Once,
-    blobs: Once,
+    named: IdIndex,
+    groups: IdIndex,
+    blobs: IdIndex,
 }
 
 // What these mappings name.

@@ -1,5 +1,5 @@
 use Rattle.std.proofs.Common.{◌≡◌, drop, fold}
-use Rattle.doc_model.specs.Finding.{with_new}
+use Rattle.compact_values.specs.IdPlaces.{with_new}
 use Rattle.doc_model.specs.Puts.{same_ids}
 use Rattle.plain_core.specs.Cataloging.{listed}
 use Rattle.plain_core.proofs.catalog.Catalog.grow.Given as goal

@@ -1,6 +1,6 @@
 use Rattle.std.proofs.Common.{sym, ◌∙◌, ap, fold}
 use Rattle.std.proofs.lemmas.List.Sums.{fold-append}
-use Rattle.doc_model.specs.Finding.{with_new}
+use Rattle.compact_values.specs.IdPlaces.{with_new}
 use Rattle.doc_model.specs.Puts.{same_ids}
 use Rattle.plain_core.specs.Uploading.{elements_of}
 use Rattle.plain_core.proofs.Growing.{grows}

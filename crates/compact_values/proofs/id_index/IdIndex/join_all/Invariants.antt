@@ -1,7 +1,7 @@
 use Rattle.std.proofs.Common.{◌≡◌, drop, fold}
+use Rattle.compact_values.specs.IdPlaces.{with_new}
 use Rattle.compact_values.specs.SameIds.{same_id}
-use Rattle.doc_model.specs.Finding.{with_new}
-use Rattle.plain_core.proofs.once.Once.join_all.Given as goal
+use Rattle.compact_values.proofs.id_index.IdIndex.join_all.Given as goal
 
 -- what is left joins what is there
 abbrev pub invariant-loop-id : goal.invariant-loop-id
