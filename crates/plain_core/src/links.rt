@@ -59,7 +59,11 @@ pub fn name_revisions(
 }
 
 // The manifests to which these revisions are mapped.
-fn targets_of(alloc: Global, revisions: &Revisions<'_>, named: &[ExGuid]) -> Result<IdIndex, NoMemory>
+fn targets_of(
+    alloc: Global,
+    revisions: &Revisions<'_>,
+    named: &[ExGuid],
+) -> Result<IdIndex, NoMemory>
     ensures { IfOk result (λ targets. targets ≡ each_once (flat_map (λ r. targets_by (mapping_of revisions.now.maps.now r)) named.now)) }
 {
     let mut targets = IdIndex::new(alloc);
@@ -114,7 +118,11 @@ fn name_blobs_of(objects: &[Object], blobs: &mut IdIndex) -> Result<(), NoMemory
 }
 
 /// The blobs that these groups name.
-pub fn name_blobs(alloc: Global, catalog: &Catalog<'_>, groups: &[ExGuid]) -> Result<IdIndex, NoMemory>
+pub fn name_blobs(
+    alloc: Global,
+    catalog: &Catalog<'_>,
+    groups: &[ExGuid],
+) -> Result<IdIndex, NoMemory>
     ensures { IfOk result (λ blobs. blobs ≡ named_blobs (listed catalog.now) groups.now) }
 {
     let mut blobs = IdIndex::new(alloc);
