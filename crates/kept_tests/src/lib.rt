@@ -6,6 +6,12 @@
 #[cfg(test)]
 mod crash_tests;
 #[cfg(test)]
+mod generated_calls;
+#[cfg(test)]
+mod large_tests;
+#[cfg(test)]
 mod opening_tests;
+#[cfg(test)]
+mod restart_tests;
 #[cfg(test)]
 mod test_documents;

@@ -7,7 +7,7 @@ use cell_journal::Reading;
 use change_record::limits::MOST_BODY;
 use change_record::{can_move, is_valid, write_change};
 use compact_values::{Guid, Text};
-use doc_model::{Call, Sub, Submitted};
+use doc_model::{Call, Core, Sub, Submitted};
 use host_edge::{Disk, MemDisk};
 use journaled_doc::{JournaledDoc, OpenFault};
 use plain_core::PlainCore;
@@ -28,7 +28,12 @@ const CALLS: usize = 64;
 
 /// A new document, on a disk whose calls with these numbers fail. None where one of them is a call of its creation.
 pub fn create(alloc: Global, fail: &[u64]) -> Option<Kept> {
-    let disk = MemDisk::new(alloc, ROOM, CALLS, fail).ok()?;
+    create_in(alloc, ROOM, CALLS, fail)
+}
+
+/// The same on a disk with room for so many bytes that are written, and for so many calls.
+pub fn create_in(alloc: Global, room: usize, calls: usize, fail: &[u64]) -> Option<Kept> {
+    let disk = MemDisk::new(alloc, room, calls, fail).ok()?;
     let core = PlainCore::new(alloc, G).ok()?;
     match JournaledDoc::create(alloc, core, disk) {
         Ok(doc) => Some(doc),
@@ -73,14 +78,36 @@ pub fn is_answered(submitted: Option<Submitted>) -> bool {
     }
 }
 
-/// The document of a disk with these bytes.
-pub fn reopen(alloc: Global, image: &[u8]) -> Result<Kept, OpenFault> {
-    let Ok(mut disk) = MemDisk::new(alloc, ROOM, CALLS, &[]) else {
+/// Makes a call on a document that isn't kept, and tells whether it may be made and moved it.
+pub fn make(core: &mut PlainCore, call: &Call) -> bool {
+    if !is_valid(call) {
+        return false;
+    }
+    match core.plan(call) {
+        Ok(plan) => {
+            let moved = plan.moved;
+            core.settle(plan);
+            moved
+        }
+        Err(_) => false,
+    }
+}
+
+/// A disk with these bytes, which is asked no more often than it has bytes, and some calls.
+pub fn disk_of(alloc: Global, image: &[u8]) -> Result<MemDisk, OpenFault> {
+    let calls = image.len().saturating_add(CALLS);
+    let Ok(mut disk) = MemDisk::new(alloc, image.len(), calls, &[]) else {
         return Err(OpenFault::NoMemory);
     };
-    if disk.write_at(0, image).is_err() {
-        return Err(OpenFault::DiskFault);
+    match disk.write_at(0, image) {
+        Ok(()) => Ok(disk),
+        Err(_) => Err(OpenFault::DiskFault),
     }
+}
+
+/// The document of a disk with these bytes.
+pub fn reopen(alloc: Global, image: &[u8]) -> Result<Kept, OpenFault> {
+    let disk = disk_of(alloc, image)?;
     let reading = match Reading::begin(disk) {
         Ok(reading) => reading,
         Err((_, _)) => return Err(OpenFault::NotAJournal { place: 0 }),
