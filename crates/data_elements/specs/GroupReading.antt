@@ -8,6 +8,7 @@ use Rattle.stream_objects.specs.declared.tree.Tree.TheViews.{out-Tree}
 use Rattle.stream_objects.specs.Objects.{is_kind, start_of, children_of}
 use Rattle.stream_objects.specs.ObjectFields.{single}
 use Rattle.stream_objects.specs.Gathering.{and_then}
+use Rattle.stream_objects.specs.declared.object_types.TheConstants.{OBJECT_GROUP_DATA, OBJECT_GROUP_DECLARATIONS, OBJECT_GROUP_OBJECT_BLOB_DATA_DECLARATION, OBJECT_GROUP_OBJECT_DATA, OBJECT_GROUP_OBJECT_DATA_BLOB_REFERENCE, OBJECT_GROUP_OBJECT_DECLARE}
 use Rattle.doc_model.specs.Groups.{declarations_in, data_in}
 use Rattle.doc_model.specs.declared.element.Object.{Object}
 use Rattle.doc_model.specs.declared.element.Content.TheVariants.{Inline, Apart}
@@ -34,8 +35,8 @@ named_blob r = r.1.1
 -- the blob that a declaration or data name
 unfoldable pub link_at : List ℕ → Tree → Link
 link_at input t =
-    if is_kind 0x05 t then link_of (option_map blob_of (declared_row input t))
-    else if is_kind 0x1C t then link_of (option_map named_blob (reference_row input t))
+    if is_kind OBJECT_GROUP_OBJECT_BLOB_DATA_DECLARATION t then link_of (option_map blob_of (declared_row input t))
+    else if is_kind OBJECT_GROUP_OBJECT_DATA_BLOB_REFERENCE t then link_of (option_map named_blob (reference_row input t))
     else links.Inline
 
 abbrev pub same_id : ExGuid → ExGuid → Bool
@@ -73,7 +74,7 @@ blob_declaration_of d = record { id = d.0; partition = d.1.1.0; size = d.1.1.1 }
 -- what either kind of declaration says of the object
 unfoldable pub declaration_at : List ℕ → Tree → Option Declaration
 declaration_at input t =
-    if is_kind 0x18 t then option_map declaration_of (declaration_row input t)
+    if is_kind OBJECT_GROUP_OBJECT_DECLARE t then option_map declaration_of (declaration_row input t)
     else option_map blob_declaration_of (declared_row input t)
 
 abbrev pub inline_object : Declaration → List ExGuid × (List CellId × List ℕ) → Object
@@ -85,7 +86,7 @@ apart_object d x = record { id = d.id; partition = d.partition; size = d.size; r
 -- the object of a declaration and the data that belong to it
 unfoldable pub object_at : List ℕ → Declaration → Tree → Option Object
 object_at input d t =
-    if is_kind 0x16 t then option_map (inline_object d) (data_row input t)
+    if is_kind OBJECT_GROUP_OBJECT_DATA t then option_map (inline_object d) (data_row input t)
     else option_map (apart_object d) (reference_row input t)
 
 -- the objects of these declarations and data, behind those before
@@ -115,4 +116,4 @@ halves_at input t (Some declarations) None = Err (start_of t)
 halves_at input t None other = Err (start_of t)
 
 unfoldable pub group_at : List ℕ → Tree → Result Body ℕ
-group_at input t = halves_at input t (single (children_of 0x1D t)) (single (children_of 0x1E t))
+group_at input t = halves_at input t (single (children_of OBJECT_GROUP_DECLARATIONS t)) (single (children_of OBJECT_GROUP_DATA t))

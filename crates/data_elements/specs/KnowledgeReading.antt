@@ -8,6 +8,7 @@ use Rattle.stream_objects.specs.declared.tree.Tree.TheViews.{out-Tree}
 use Rattle.stream_objects.specs.Objects.{is_kind, start_of, children_of}
 use Rattle.stream_objects.specs.ObjectFields.{single}
 use Rattle.stream_objects.specs.Gathering.{gather}
+use Rattle.stream_objects.specs.declared.object_types.TheConstants.{CELL_KNOWLEDGE, CELL_KNOWLEDGE_ENTRY, CELL_KNOWLEDGE_RANGE, SPECIALIZED_KNOWLEDGE}
 use Rattle.doc_model.specs.Knowledges.{cell_knowledge, entry_ranges}
 use Rattle.doc_model.specs.KnowledgeParts.{guid_row}
 use Rattle.doc_model.specs.declared.knowledge.Range.{Range}
@@ -32,8 +33,8 @@ add_entry place ranges None = Err place
 
 unfoldable pub added_at : List ℕ → List Range → Tree → Result (List Range) ℕ
 added_at input ranges t =
-    if is_kind 0x0F t then add_range (start_of t) ranges (range_row input t)
-    else if is_kind 0x17 t then add_entry (start_of t) ranges (entry_row input t)
+    if is_kind CELL_KNOWLEDGE_RANGE t then add_range (start_of t) ranges (range_row input t)
+    else if is_kind CELL_KNOWLEDGE_ENTRY t then add_entry (start_of t) ranges (entry_row input t)
     else Ok ranges
 
 unfoldable pub cells_at : List ℕ → List Range → Tree → Result (List Range) ℕ
@@ -44,11 +45,11 @@ only_cells input place ranges (Some c) = cells_at input ranges c
 only_cells input place ranges None = Err place
 
 abbrev pub specialized_with : List ℕ → Tree → List Range → Option Guid → Result (List Range) ℕ
-specialized_with input t ranges (Some g) = if g.number == cell_knowledge then only_cells input (start_of t) ranges (single (children_of 0x14 t)) else Ok ranges
+specialized_with input t ranges (Some g) = if g.number == cell_knowledge then only_cells input (start_of t) ranges (single (children_of CELL_KNOWLEDGE t)) else Ok ranges
 specialized_with input t ranges None = Err (start_of t)
 
 unfoldable pub specialized_at : List ℕ → List Range → Tree → Result (List Range) ℕ
-specialized_at input ranges t = if is_kind 0x44 t then specialized_with input t ranges (guid_row input t) else Ok ranges
+specialized_at input ranges t = if is_kind SPECIALIZED_KNOWLEDGE t then specialized_with input t ranges (guid_row input t) else Ok ranges
 
 unfoldable pub knowledge_at : List ℕ → Tree → Result (List Range) ℕ
 knowledge_at input t = if has_no_fields input t then gather (specialized_at input) [] (out-Tree t).children else Err (start_of t)

@@ -7,6 +7,7 @@ use Rattle.compact_values.specs.declared.ids.Serial.TheVariants.{Null, Number}
 use Rattle.stream_objects.specs.declared.tree.Tree.{Tree}
 use Rattle.stream_objects.specs.Objects.{start_of, children_of}
 use Rattle.stream_objects.specs.Gathering.{and_then}
+use Rattle.stream_objects.specs.declared.object_types.TheConstants.{DATA_ELEMENT}
 use Rattle.doc_model.specs.ElementParts.{element_row}
 use Rattle.doc_model.specs.declared.element.Body.{Body}
 use Rattle.doc_model.specs.declared.element.NumberedElement.{NumberedElement}
@@ -33,7 +34,7 @@ numbered_from input ns [] = Ok ns
 numbered_from input ns (t ∷ ts) = and_then (numbered_at input t) (λ n. numbered_from input (ns ++ n ∷ []) ts)
 
 abbrev pub numbered_package_with : List ℕ → Tree → Option ℕ → Result (List NumberedElement) ℕ
-numbered_package_with input t (Some b) = numbered_from input [] (children_of 0x01 t)
+numbered_package_with input t (Some b) = numbered_from input [] (children_of DATA_ELEMENT t)
 numbered_package_with input t None = Err (start_of t)
 
 unfoldable pub numbered_package_at : List ℕ → Tree → Result (List NumberedElement) ℕ

@@ -10,6 +10,7 @@ use Rattle.stream_objects.specs.declared.tree.Tree.TheViews.{out-Tree}
 use Rattle.stream_objects.specs.Objects.{start_of, children_of}
 use Rattle.stream_objects.specs.ObjectFields.{single}
 use Rattle.stream_objects.specs.Gathering.{and_then}
+use Rattle.stream_objects.specs.declared.object_types.TheConstants.{CELL_MANIFEST_CURRENT_REVISION, DATA_ELEMENT, OBJECT_DATA_BLOB, REVISION_MANIFEST, REVISION_MANIFEST_OBJECT_GROUP_REFERENCES, REVISION_MANIFEST_ROOT_DECLARE, STORAGE_INDEX_CELL_MAPPING, STORAGE_INDEX_MANIFEST_MAPPING, STORAGE_INDEX_REVISION_MAPPING, STORAGE_MANIFEST_ROOT_DECLARE, STORAGE_MANIFEST_SCHEMA_GUID}
 use Rattle.doc_model.specs.ElementParts.{element_row}
 use Rattle.doc_model.specs.declared.element.Element.{Element}
 use Rattle.doc_model.specs.declared.element.Body.{Body}
@@ -21,32 +22,32 @@ use Rattle.data_elements.specs.GroupReading.{group_at}
 unfoldable pub index_at : List ℕ → Tree → Result Body ℕ
 index_at input t =
     unless_broken (check_at input 1 (out-Tree t).children)
-    (and_then (collect 0x11 (row_at manifest_code.take) input t) (λ m. and_then (collect 0x0E (row_at cell_code.take) input t) (λ c. and_then (collect 0x0D (row_at revision_code.take) input t) (λ r. Ok (Index m c r)))))
+    (and_then (collect STORAGE_INDEX_MANIFEST_MAPPING (row_at manifest_code.take) input t) (λ m. and_then (collect STORAGE_INDEX_CELL_MAPPING (row_at cell_code.take) input t) (λ c. and_then (collect STORAGE_INDEX_REVISION_MAPPING (row_at revision_code.take) input t) (λ r. Ok (Index m c r)))))
 
 unfoldable pub storage_at : List ℕ → Tree → Result Body ℕ
 storage_at input t =
-    if is_some (single (children_of 0x0C t)) then
+    if is_some (single (children_of STORAGE_MANIFEST_SCHEMA_GUID t)) then
     unless_broken (check_at input 2 (out-Tree t).children)
-    (and_then (only 0x0C (row_at take_guid) input t) (λ s. and_then (collect 0x07 (row_at root_code.take) input t) (λ r. Ok (Storage s r))))
+    (and_then (only STORAGE_MANIFEST_SCHEMA_GUID (row_at take_guid) input t) (λ s. and_then (collect STORAGE_MANIFEST_ROOT_DECLARE (row_at root_code.take) input t) (λ r. Ok (Storage s r))))
     else Err (start_of t)
 
 unfoldable pub cell_at : List ℕ → Tree → Result Body ℕ
 cell_at input t =
-    if is_some (single (children_of 0x0B t)) then
-    unless_broken (check_at input 3 (out-Tree t).children) (and_then (only 0x0B (row_at take_exguid) input t) (λ c. Ok (Cell c)))
+    if is_some (single (children_of CELL_MANIFEST_CURRENT_REVISION t)) then
+    unless_broken (check_at input 3 (out-Tree t).children) (and_then (only CELL_MANIFEST_CURRENT_REVISION (row_at take_exguid) input t) (λ c. Ok (Cell c)))
     else Err (start_of t)
 
 unfoldable pub revision_at : List ℕ → Tree → Result Body ℕ
 revision_at input t =
-    if is_some (single (children_of 0x1A t)) then
+    if is_some (single (children_of REVISION_MANIFEST t)) then
     unless_broken (check_at input 4 (out-Tree t).children)
-    (and_then (only 0x1A (row_at (take_both take_exguid take_exguid)) input t) (λ h. and_then (collect 0x0A (row_at revision_root_code.take) input t) (λ r. and_then (collect 0x19 (row_at take_exguid) input t) (λ g. Ok (Revision h.0 h.1 r g)))))
+    (and_then (only REVISION_MANIFEST (row_at (take_both take_exguid take_exguid)) input t) (λ h. and_then (collect REVISION_MANIFEST_ROOT_DECLARE (row_at revision_root_code.take) input t) (λ r. and_then (collect REVISION_MANIFEST_OBJECT_GROUP_REFERENCES (row_at take_exguid) input t) (λ g. Ok (Revision h.0 h.1 r g)))))
     else Err (start_of t)
 
 unfoldable pub blob_at : List ℕ → Tree → Result Body ℕ
 blob_at input t =
-    if is_some (single (children_of 0x02 t)) then
-    unless_broken (check_at input 10 (out-Tree t).children) (and_then (only 0x02 blob_row input t) (λ b. Ok (Blob b)))
+    if is_some (single (children_of OBJECT_DATA_BLOB t)) then
+    unless_broken (check_at input 10 (out-Tree t).children) (and_then (only OBJECT_DATA_BLOB blob_row input t) (λ b. Ok (Blob b)))
     else Err (start_of t)
 
 unfoldable pub body_at : List ℕ → ℕ → Tree → Result Body ℕ
@@ -75,7 +76,7 @@ elements_from input es [] = Ok es
 elements_from input es (t ∷ ts) = and_then (element_at input t) (λ e. elements_from input (es ++ e ∷ []) ts)
 
 abbrev pub package_with : List ℕ → Tree → Option ℕ → Result (List Element) ℕ
-package_with input t (Some b) = elements_from input [] (children_of 0x01 t)
+package_with input t (Some b) = elements_from input [] (children_of DATA_ELEMENT t)
 package_with input t None = Err (start_of t)
 
 unfoldable pub package_at : List ℕ → Tree → Result (List Element) ℕ

@@ -10,6 +10,7 @@ use Rattle.doc_model.specs.ElementCodes.{manifest_code, cell_code, revision_code
 use Rattle.stream_objects.specs.declared.tree.Tree.{Tree}
 use Rattle.stream_objects.specs.Objects.{is_kind}
 use Rattle.stream_objects.specs.ObjectFields.{simple_fields, compound_fields}
+use Rattle.stream_objects.specs.declared.object_types.TheConstants.{CELL_MANIFEST_CURRENT_REVISION, OBJECT_DATA_BLOB, OBJECT_GROUP_DATA, OBJECT_GROUP_DECLARATIONS, OBJECT_GROUP_OBJECT_BLOB_DATA_DECLARATION, OBJECT_GROUP_OBJECT_DATA, OBJECT_GROUP_OBJECT_DATA_BLOB_REFERENCE, OBJECT_GROUP_OBJECT_DECLARE, REVISION_MANIFEST, REVISION_MANIFEST_OBJECT_GROUP_REFERENCES, REVISION_MANIFEST_ROOT_DECLARE, STORAGE_INDEX_CELL_MAPPING, STORAGE_INDEX_MANIFEST_MAPPING, STORAGE_INDEX_REVISION_MAPPING, STORAGE_MANIFEST_ROOT_DECLARE, STORAGE_MANIFEST_SCHEMA_GUID}
 
 -- the value that the fields of a simple object are
 abbrev pub simple_row : {V : Type 0} → (List ℕ → Option (V × List ℕ)) → List ℕ → Tree → Option V
@@ -42,18 +43,18 @@ blob_row input t = simple_row take_item input t
 -- whether the fields of a child are those of its type
 unfoldable pub child_ok : List ℕ → Tree → Bool
 child_ok input t =
-    if is_kind 0x02 t then is_some (blob_row input t)
-    else if is_kind 0x07 t then is_some (row_at root_code.take input t)
-    else if is_kind 0x0A t then is_some (row_at revision_root_code.take input t)
-    else if is_kind 0x0B t then is_some (row_at take_exguid input t)
-    else if is_kind 0x0C t then is_some (row_at take_guid input t)
-    else if is_kind 0x0D t then is_some (row_at revision_code.take input t)
-    else if is_kind 0x0E t then is_some (row_at cell_code.take input t)
-    else if is_kind 0x11 t then is_some (row_at manifest_code.take input t)
-    else if is_kind 0x19 t then is_some (row_at take_exguid input t)
-    else if is_kind 0x1A t then is_some (row_at (take_both take_exguid take_exguid) input t)
-    else if is_kind 0x1D t then has_no_fields input t
-    else if is_kind 0x1E t then has_no_fields input t
+    if is_kind OBJECT_DATA_BLOB t then is_some (blob_row input t)
+    else if is_kind STORAGE_MANIFEST_ROOT_DECLARE t then is_some (row_at root_code.take input t)
+    else if is_kind REVISION_MANIFEST_ROOT_DECLARE t then is_some (row_at revision_root_code.take input t)
+    else if is_kind CELL_MANIFEST_CURRENT_REVISION t then is_some (row_at take_exguid input t)
+    else if is_kind STORAGE_MANIFEST_SCHEMA_GUID t then is_some (row_at take_guid input t)
+    else if is_kind STORAGE_INDEX_REVISION_MAPPING t then is_some (row_at revision_code.take input t)
+    else if is_kind STORAGE_INDEX_CELL_MAPPING t then is_some (row_at cell_code.take input t)
+    else if is_kind STORAGE_INDEX_MANIFEST_MAPPING t then is_some (row_at manifest_code.take input t)
+    else if is_kind REVISION_MANIFEST_OBJECT_GROUP_REFERENCES t then is_some (row_at take_exguid input t)
+    else if is_kind REVISION_MANIFEST t then is_some (row_at (take_both take_exguid take_exguid) input t)
+    else if is_kind OBJECT_GROUP_DECLARATIONS t then has_no_fields input t
+    else if is_kind OBJECT_GROUP_DATA t then has_no_fields input t
     else true
 
 -- ---- what the halves of a group hold
@@ -99,8 +100,8 @@ reference_row input t = simple_row (take_both take_ids (take_both take_cells tak
 -- whether the fields of a declaration or of data are those of its type
 unfoldable pub member_ok : List ℕ → Tree → Bool
 member_ok input t =
-    if is_kind 0x05 t then is_some (declared_row input t)
-    else if is_kind 0x16 t then is_some (data_row input t)
-    else if is_kind 0x18 t then is_some (declaration_row input t)
-    else if is_kind 0x1C t then is_some (reference_row input t)
+    if is_kind OBJECT_GROUP_OBJECT_BLOB_DATA_DECLARATION t then is_some (declared_row input t)
+    else if is_kind OBJECT_GROUP_OBJECT_DATA t then is_some (data_row input t)
+    else if is_kind OBJECT_GROUP_OBJECT_DECLARE t then is_some (declaration_row input t)
+    else if is_kind OBJECT_GROUP_OBJECT_DATA_BLOB_REFERENCE t then is_some (reference_row input t)
     else true

@@ -10,7 +10,7 @@ use crate::group::read_group;
 use crate::rows::blob_row;
 use doc_model::Body;
 use std::alloc::Global;
-use stream_objects::{Tree, only_child};
+use stream_objects::{Tree, object_types, only_child};
 
 #[tactic(auto, unfolding(crate::specs::Reading::index_at))]
 fn read_index(alloc: Global, bytes: &[u8], tree: &Tree) -> Result<Body, ElementFault>
@@ -18,9 +18,24 @@ fn read_index(alloc: Global, bytes: &[u8], tree: &Tree) -> Result<Body, ElementF
 {
     let children = tree.children.as_slice();
     check(alloc, bytes, 1, children)?;
-    let manifests = collect(alloc, bytes, children, 0x11)?;
-    let cells = collect(alloc, bytes, children, 0x0E)?;
-    let revisions = collect(alloc, bytes, children, 0x0D)?;
+    let manifests = collect(
+        alloc,
+        bytes,
+        children,
+        object_types::STORAGE_INDEX_MANIFEST_MAPPING,
+    )?;
+    let cells = collect(
+        alloc,
+        bytes,
+        children,
+        object_types::STORAGE_INDEX_CELL_MAPPING,
+    )?;
+    let revisions = collect(
+        alloc,
+        bytes,
+        children,
+        object_types::STORAGE_INDEX_REVISION_MAPPING,
+    )?;
     Ok(Body::Index {
         manifests,
         cells,
@@ -32,13 +47,23 @@ fn read_index(alloc: Global, bytes: &[u8], tree: &Tree) -> Result<Body, ElementF
 fn read_storage(alloc: Global, bytes: &[u8], tree: &Tree) -> Result<Body, ElementFault>
     ensures { Gives result (storage_at bytes.now tree.now) }
 {
-    if only_child(tree, 0x0C).is_none() {
+    if only_child(tree, object_types::STORAGE_MANIFEST_SCHEMA_GUID).is_none() {
         return Err(fault(tree));
     }
     let children = tree.children.as_slice();
     check(alloc, bytes, 2, children)?;
-    let schema = only(alloc, bytes, tree, 0x0C)?;
-    let roots = collect(alloc, bytes, children, 0x07)?;
+    let schema = only(
+        alloc,
+        bytes,
+        tree,
+        object_types::STORAGE_MANIFEST_SCHEMA_GUID,
+    )?;
+    let roots = collect(
+        alloc,
+        bytes,
+        children,
+        object_types::STORAGE_MANIFEST_ROOT_DECLARE,
+    )?;
     Ok(Body::Storage { schema, roots })
 }
 
@@ -46,11 +71,16 @@ fn read_storage(alloc: Global, bytes: &[u8], tree: &Tree) -> Result<Body, Elemen
 fn read_cell(alloc: Global, bytes: &[u8], tree: &Tree) -> Result<Body, ElementFault>
     ensures { Gives result (cell_at bytes.now tree.now) }
 {
-    if only_child(tree, 0x0B).is_none() {
+    if only_child(tree, object_types::CELL_MANIFEST_CURRENT_REVISION).is_none() {
         return Err(fault(tree));
     }
     check(alloc, bytes, 3, tree.children.as_slice())?;
-    let current = only(alloc, bytes, tree, 0x0B)?;
+    let current = only(
+        alloc,
+        bytes,
+        tree,
+        object_types::CELL_MANIFEST_CURRENT_REVISION,
+    )?;
     Ok(Body::Cell { current })
 }
 
@@ -58,14 +88,24 @@ fn read_cell(alloc: Global, bytes: &[u8], tree: &Tree) -> Result<Body, ElementFa
 fn read_revision(alloc: Global, bytes: &[u8], tree: &Tree) -> Result<Body, ElementFault>
     ensures { Gives result (revision_at bytes.now tree.now) }
 {
-    if only_child(tree, 0x1A).is_none() {
+    if only_child(tree, object_types::REVISION_MANIFEST).is_none() {
         return Err(fault(tree));
     }
     let children = tree.children.as_slice();
     check(alloc, bytes, 4, children)?;
-    let (id, base) = only(alloc, bytes, tree, 0x1A)?;
-    let roots = collect(alloc, bytes, children, 0x0A)?;
-    let groups = collect(alloc, bytes, children, 0x19)?;
+    let (id, base) = only(alloc, bytes, tree, object_types::REVISION_MANIFEST)?;
+    let roots = collect(
+        alloc,
+        bytes,
+        children,
+        object_types::REVISION_MANIFEST_ROOT_DECLARE,
+    )?;
+    let groups = collect(
+        alloc,
+        bytes,
+        children,
+        object_types::REVISION_MANIFEST_OBJECT_GROUP_REFERENCES,
+    )?;
     Ok(Body::Revision {
         id,
         base,
@@ -78,7 +118,7 @@ fn read_revision(alloc: Global, bytes: &[u8], tree: &Tree) -> Result<Body, Eleme
 fn read_blob(alloc: Global, bytes: &[u8], tree: &Tree) -> Result<Body, ElementFault>
     ensures { Gives result (blob_at bytes.now tree.now) }
 {
-    let Some(child) = only_child(tree, 0x02) else {
+    let Some(child) = only_child(tree, object_types::OBJECT_DATA_BLOB) else {
         return Err(fault(tree));
     };
     check(alloc, bytes, 10, tree.children.as_slice())?;

@@ -10,19 +10,25 @@ use crate::members::member_ok;
 use crate::rows::child_ok;
 use compact_values::NoMemory;
 use std::alloc::Global;
-use stream_objects::Tree;
+use stream_objects::{Tree, object_types};
 
 /// Whether objects of its type have a place in an element of this kind.
 fn has_place(kind: u64, tree: &Tree) -> bool
     ensures { result ≡ has_place kind tree.now }
 {
     match kind {
-        1 => tree.kind == 0x11 || tree.kind == 0x0E || tree.kind == 0x0D,
-        2 => tree.kind == 0x0C || tree.kind == 0x07,
-        3 => tree.kind == 0x0B,
-        4 => tree.kind == 0x1A || tree.kind == 0x0A || tree.kind == 0x19,
-        5 => tree.kind == 0x1D || tree.kind == 0x1E,
-        _ => tree.kind == 0x02,
+        1 => tree.kind == object_types::STORAGE_INDEX_MANIFEST_MAPPING
+            || tree.kind == object_types::STORAGE_INDEX_CELL_MAPPING
+            || tree.kind == object_types::STORAGE_INDEX_REVISION_MAPPING,
+        2 => tree.kind == object_types::STORAGE_MANIFEST_SCHEMA_GUID
+            || tree.kind == object_types::STORAGE_MANIFEST_ROOT_DECLARE,
+        3 => tree.kind == object_types::CELL_MANIFEST_CURRENT_REVISION,
+        4 => tree.kind == object_types::REVISION_MANIFEST
+            || tree.kind == object_types::REVISION_MANIFEST_ROOT_DECLARE
+            || tree.kind == object_types::REVISION_MANIFEST_OBJECT_GROUP_REFERENCES,
+        5 => tree.kind == object_types::OBJECT_GROUP_DECLARATIONS
+            || tree.kind == object_types::OBJECT_GROUP_DATA,
+        _ => tree.kind == object_types::OBJECT_DATA_BLOB,
     }
 }
 
@@ -59,10 +65,22 @@ fn check_both(
 fn check_half(alloc: Global, bytes: &[u8], tree: &Tree) -> Result<(), ElementFault>
     ensures { Passes result (check_members bytes.now (members_in tree.now)) }
 {
-    if tree.kind == 0x1D {
-        check_both(alloc, bytes, tree.children.as_slice(), 0x18, 0x05)
-    } else if tree.kind == 0x1E {
-        check_both(alloc, bytes, tree.children.as_slice(), 0x16, 0x1C)
+    if tree.kind == object_types::OBJECT_GROUP_DECLARATIONS {
+        check_both(
+            alloc,
+            bytes,
+            tree.children.as_slice(),
+            object_types::OBJECT_GROUP_OBJECT_DECLARE,
+            object_types::OBJECT_GROUP_OBJECT_BLOB_DATA_DECLARATION,
+        )
+    } else if tree.kind == object_types::OBJECT_GROUP_DATA {
+        check_both(
+            alloc,
+            bytes,
+            tree.children.as_slice(),
+            object_types::OBJECT_GROUP_OBJECT_DATA,
+            object_types::OBJECT_GROUP_OBJECT_DATA_BLOB_REFERENCE,
+        )
     } else {
         Ok(())
     }

@@ -6,6 +6,7 @@ ghost use Rattle.data_elements.specs.Answers.{Gives};
 ghost use Rattle.data_elements.specs.Checking.{collect_from, or_broken};
 ghost use Rattle.data_elements.specs.Rows.{data_row, reference_row};
 ghost use Rattle.data_elements.specs.GroupReading.{link_at, same_id, link_agrees, links_agree, declaration_at, inline_object, apart_object, object_at, objects_from, objects_at, halves_agree, group_at};
+ghost use Rattle.stream_objects.specs.declared.object_types.TheConstants.{OBJECT_GROUP_OBJECT_BLOB_DATA_DECLARATION, OBJECT_GROUP_OBJECT_DATA, OBJECT_GROUP_OBJECT_DATA_BLOB_REFERENCE, OBJECT_GROUP_OBJECT_DECLARE};
 
 use crate::check::check;
 use crate::collect::own;
@@ -14,7 +15,7 @@ use crate::members::{data_row, declaration_row, declared_row, reference_row};
 use compact_values::{ExGuid, NoMemory, Seq};
 use doc_model::{Body, Content, Object, Objects};
 use std::alloc::Global;
-use stream_objects::{Tree, only_child};
+use stream_objects::{Tree, object_types, only_child};
 
 type Links = Seq<Link>;
 
@@ -45,11 +46,13 @@ fn link_at(alloc: Global, bytes: &[u8], tree: &Tree) -> Result<Link, NoMemory>
     ensures { IfOk result (λ link. link ≡ link_at bytes.now tree.now) }
 {
     match tree.kind {
-        0x05 => match declared_row(bytes, tree) {
+        object_types::OBJECT_GROUP_OBJECT_BLOB_DATA_DECLARATION => match declared_row(bytes, tree) {
             Some((_id, (blob, _sizes))) => Ok(Link::Apart { blob }),
             None => Ok(Link::Unread),
         },
-        0x1C => match reference_row(alloc, bytes, tree)? {
+        object_types::OBJECT_GROUP_OBJECT_DATA_BLOB_REFERENCE => match reference_row(
+            alloc, bytes, tree,
+        )? {
             Some((_references, (_cells, blob))) => Ok(Link::Apart { blob }),
             None => Ok(Link::Unread),
         },
@@ -145,8 +148,20 @@ fn halves_agree(
 ) -> Result<bool, NoMemory>
     ensures { IfOk result (λ agree. agree ≡ halves_agree bytes.now declarations.now held.now) }
 {
-    let declared = links(alloc, bytes, declarations.children.as_slice(), 0x18, 0x05)?;
-    let named = links(alloc, bytes, held.children.as_slice(), 0x16, 0x1C)?;
+    let declared = links(
+        alloc,
+        bytes,
+        declarations.children.as_slice(),
+        object_types::OBJECT_GROUP_OBJECT_DECLARE,
+        object_types::OBJECT_GROUP_OBJECT_BLOB_DATA_DECLARATION,
+    )?;
+    let named = links(
+        alloc,
+        bytes,
+        held.children.as_slice(),
+        object_types::OBJECT_GROUP_OBJECT_DATA,
+        object_types::OBJECT_GROUP_OBJECT_DATA_BLOB_REFERENCE,
+    )?;
     Ok(links_agree(declared.as_slice(), named.as_slice()))
 }
 
@@ -154,7 +169,7 @@ fn halves_agree(
 fn declaration_at(bytes: &[u8], tree: &Tree) -> Option<Declaration>
     ensures { result ≡ declaration_at bytes.now tree.now }
 {
-    if tree.kind == 0x18 {
+    if tree.kind == object_types::OBJECT_GROUP_OBJECT_DECLARE {
         let (id, (partition, size)) = declaration_row(bytes, tree)?;
         Some(Declaration {
             id,
@@ -177,11 +192,13 @@ fn read_declarations(
     bytes: &[u8],
     trees: &[Tree],
 ) -> Result<Declarations, ElementFault>
-    ensures { Gives result (collect_from declaration_at bytes.now [] (filter (λ c. is_kind 0x18 c || is_kind 0x05 c) trees.now)) }
+    ensures { Gives result (collect_from declaration_at bytes.now [] (filter (λ c. is_kind OBJECT_GROUP_OBJECT_DECLARE c || is_kind OBJECT_GROUP_OBJECT_BLOB_DATA_DECLARATION c) trees.now)) }
 {
     let mut declarations = Seq::new(alloc);
     for tree in trees {
-        if tree.kind == 0x18 || tree.kind == 0x05 {
+        if tree.kind == object_types::OBJECT_GROUP_OBJECT_DECLARE
+            || tree.kind == object_types::OBJECT_GROUP_OBJECT_BLOB_DATA_DECLARATION
+        {
             match declaration_at(bytes, tree) {
                 Some(declaration) => match declarations.push(declaration) {
                     Ok(()) => {}
@@ -257,7 +274,7 @@ fn read_object(
 ) -> Result<Object, ElementFault>
     ensures { Gives result (or_broken (start_of tree.now) (object_at bytes.now declaration tree.now)) }
 {
-    if tree.kind == 0x16 {
+    if tree.kind == object_types::OBJECT_GROUP_OBJECT_DATA {
         inline_object(alloc, bytes, declaration, tree)
     } else {
         apart_object(alloc, bytes, declaration, tree)
@@ -271,12 +288,14 @@ fn read_objects(
     declarations: &[Declaration],
     trees: &[Tree],
 ) -> Result<Objects, ElementFault>
-    ensures { Gives result (objects_from bytes.now [] declarations.now (filter (λ c. is_kind 0x16 c || is_kind 0x1C c) trees.now)) }
+    ensures { Gives result (objects_from bytes.now [] declarations.now (filter (λ c. is_kind OBJECT_GROUP_OBJECT_DATA c || is_kind OBJECT_GROUP_OBJECT_DATA_BLOB_REFERENCE c) trees.now)) }
 {
     let mut objects = Seq::new(alloc);
     let mut left = declarations;
     for tree in trees {
-        if tree.kind == 0x16 || tree.kind == 0x1C {
+        if tree.kind == object_types::OBJECT_GROUP_OBJECT_DATA
+            || tree.kind == object_types::OBJECT_GROUP_OBJECT_DATA_BLOB_REFERENCE
+        {
             match left {
                 [] => return Err(fault(tree)),
                 [next, rest @ ..] => {
@@ -311,10 +330,10 @@ fn objects_at(
 pub fn read_group(alloc: Global, bytes: &[u8], tree: &Tree) -> Result<Body, ElementFault>
     ensures { Gives result (group_at bytes.now tree.now) }
 {
-    let Some(declarations) = only_child(tree, 0x1D) else {
+    let Some(declarations) = only_child(tree, object_types::OBJECT_GROUP_DECLARATIONS) else {
         return Err(fault(tree));
     };
-    let Some(held) = only_child(tree, 0x1E) else {
+    let Some(held) = only_child(tree, object_types::OBJECT_GROUP_DATA) else {
         return Err(fault(tree));
     };
     match halves_agree(alloc, bytes, declarations, held) {

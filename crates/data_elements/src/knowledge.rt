@@ -10,7 +10,7 @@ use crate::rows::has_no_fields;
 use compact_values::{Guid, NoMemory, Seq, Serial, take_compact, take_guid, take_serial};
 use doc_model::{Knowledge, Range, Ranges};
 use std::alloc::Global;
-use stream_objects::{Tree, compound_fields, only_child, simple_fields};
+use stream_objects::{Tree, compound_fields, object_types, only_child, simple_fields};
 
 /// The GUID of cell knowledge, 327a35f6-0761-4414-9686-51e900667a4d.
 const CELL_KNOWLEDGE: u128 = 0x327a_35f6_0761_4414_9686_51e9_0066_7a4d;
@@ -60,12 +60,12 @@ fn add(ranges: &mut Ranges, range: Range) -> Result<(), ElementFault>
 fn read_added(bytes: &[u8], ranges: &mut Ranges, tree: &Tree) -> Result<(), ElementFault>
     ensures { GivesTo result ranges.new (added_at bytes.now ranges.old tree.now) }
 {
-    if tree.kind == 0x0F {
+    if tree.kind == object_types::CELL_KNOWLEDGE_RANGE {
         match range_row(bytes, tree) {
             Some(range) => add(ranges, range),
             None => Err(fault(tree)),
         }
-    } else if tree.kind == 0x17 {
+    } else if tree.kind == object_types::CELL_KNOWLEDGE_ENTRY {
         match entry_row(bytes, tree) {
             Some(Serial::Number { guid, value }) => add(
                 ranges,
@@ -109,7 +109,7 @@ fn read_cells(bytes: &[u8], ranges: &mut Ranges, tree: &Tree) -> Result<(), Elem
 fn read_specialized(bytes: &[u8], ranges: &mut Ranges, tree: &Tree) -> Result<(), ElementFault>
     ensures { GivesTo result ranges.new (specialized_at bytes.now ranges.old tree.now) }
 {
-    if tree.kind != 0x44 {
+    if tree.kind != object_types::SPECIALIZED_KNOWLEDGE {
         return Ok(());
     }
     let Some(guid) = guid_row(bytes, tree) else {
@@ -118,7 +118,7 @@ fn read_specialized(bytes: &[u8], ranges: &mut Ranges, tree: &Tree) -> Result<()
     if guid.number != CELL_KNOWLEDGE {
         return Ok(());
     }
-    match only_child(tree, 0x14) {
+    match only_child(tree, object_types::CELL_KNOWLEDGE) {
         Some(child) => read_cells(bytes, ranges, child),
         None => Err(fault(tree)),
     }

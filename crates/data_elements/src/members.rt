@@ -7,7 +7,7 @@ use compact_values::{
     CellIds, ExGuid, Ids, NoMemory, take_cells, take_compact, take_exguid, take_ids, take_item,
 };
 use std::alloc::Global;
-use stream_objects::{Tree, simple_fields};
+use stream_objects::{Tree, object_types, simple_fields};
 
 // Two compact integers.
 fn take_two(bytes: &[u8]) -> Option<((u64, u64), &[u8])>
@@ -165,10 +165,14 @@ pub fn member_ok(alloc: Global, bytes: &[u8], tree: &Tree) -> Result<bool, NoMem
     ensures { IfOk result (λ ok. ok ≡ member_ok bytes.now tree.now) }
 {
     match tree.kind {
-        0x05 => Ok(declared_row(bytes, tree).is_some()),
-        0x16 => Ok(data_row(alloc, bytes, tree)?.is_some()),
-        0x18 => Ok(declaration_row(bytes, tree).is_some()),
-        0x1C => Ok(reference_row(alloc, bytes, tree)?.is_some()),
+        object_types::OBJECT_GROUP_OBJECT_BLOB_DATA_DECLARATION => Ok(declared_row(
+            bytes, tree,
+        ).is_some()),
+        object_types::OBJECT_GROUP_OBJECT_DATA => Ok(data_row(alloc, bytes, tree)?.is_some()),
+        object_types::OBJECT_GROUP_OBJECT_DECLARE => Ok(declaration_row(bytes, tree).is_some()),
+        object_types::OBJECT_GROUP_OBJECT_DATA_BLOB_REFERENCE => Ok(reference_row(
+            alloc, bytes, tree,
+        )?.is_some()),
         _ => Ok(true),
     }
 }

@@ -3,6 +3,7 @@ ghost use Rattle.std.specs.Prelude.{◌≡◌, [], filter};
 ghost use Rattle.stream_objects.specs.Objects.{is_kind};
 ghost use Rattle.data_elements.specs.NumberedReading.{numbered_at, numbered_from, numbered_package_at};
 ghost use Rattle.data_elements.specs.Answers.{Gives, IsNumberedAnswer, IsOnly};
+ghost use Rattle.stream_objects.specs.declared.object_types.TheConstants.{DATA_ELEMENT};
 
 use crate::body::read_body;
 use crate::fault::{ElementFault, fault};
@@ -10,7 +11,7 @@ use crate::rows::{element_row, package_row};
 use compact_values::{NoMemory, Seq, Serial};
 use doc_model::{Element, Numbered, NumberedElement};
 use std::alloc::Global;
-use stream_objects::Tree;
+use stream_objects::{Tree, object_types};
 
 /// An element with the value of its serial number.
 #[tactic(auto, unfolding(crate::specs::NumberedReading::numbered_at))]
@@ -32,11 +33,11 @@ fn read_one(alloc: Global, bytes: &[u8], tree: &Tree) -> Result<NumberedElement,
 
 /// The elements among these objects, in order.
 fn read_each(alloc: Global, bytes: &[u8], trees: &[Tree]) -> Result<Numbered, ElementFault>
-    ensures { Gives result (numbered_from bytes.now [] (filter (is_kind 0x01) trees.now)) }
+    ensures { Gives result (numbered_from bytes.now [] (filter (is_kind DATA_ELEMENT) trees.now)) }
 {
     let mut elements = Seq::new(alloc);
     for tree in trees {
-        if tree.kind == 0x01 {
+        if tree.kind == object_types::DATA_ELEMENT {
             let element = read_one(alloc, bytes, tree)?;
             match elements.push(element) {
                 Ok(()) => {}

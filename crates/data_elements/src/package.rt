@@ -3,6 +3,7 @@ ghost use Rattle.std.specs.Prelude.{◌≡◌, [], filter};
 ghost use Rattle.stream_objects.specs.Objects.{is_kind};
 ghost use Rattle.data_elements.specs.Reading.{element_at, elements_from, package_at};
 ghost use Rattle.data_elements.specs.Answers.{Gives, IsPackageAnswer, IsOnly};
+ghost use Rattle.stream_objects.specs.declared.object_types.TheConstants.{DATA_ELEMENT};
 
 use crate::body::read_body;
 use crate::fault::{ElementFault, fault};
@@ -11,7 +12,7 @@ use compact_values::{NoMemory, Seq};
 use doc_model::limits::MOST_ELEMENTS;
 use doc_model::{Element, Elements};
 use std::alloc::Global;
-use stream_objects::Tree;
+use stream_objects::{Tree, object_types};
 
 /// Reads one element, an object of type 01 (hexadecimal; MS-FSSHTTPB 2.2.1.12.1) that was read from these bytes. Its serial
 /// number is dropped. `SchemaFault` comes as for packages.
@@ -28,11 +29,11 @@ pub fn read_element(alloc: Global, bytes: &[u8], tree: &Tree) -> Result<Element,
 
 /// The elements among these objects, in order.
 fn read_elements(alloc: Global, bytes: &[u8], trees: &[Tree]) -> Result<Elements, ElementFault>
-    ensures { Gives result (elements_from bytes.now [] (filter (is_kind 0x01) trees.now)) }
+    ensures { Gives result (elements_from bytes.now [] (filter (is_kind DATA_ELEMENT) trees.now)) }
 {
     let mut elements = Seq::new(alloc);
     for tree in trees {
-        if tree.kind == 0x01 {
+        if tree.kind == object_types::DATA_ELEMENT {
             let element = read_element(alloc, bytes, tree)?;
             match elements.push(element) {
                 Ok(()) => {}

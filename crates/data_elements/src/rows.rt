@@ -9,7 +9,7 @@ use compact_values::{
 };
 use doc_model::{CellMap, ManifestMap, RevisionMap, RevisionRoot, Root};
 use std::alloc::Global;
-use stream_objects::{Tree, compound_fields, simple_fields};
+use stream_objects::{Tree, compound_fields, object_types, simple_fields};
 use wire_kinds::{Decode, read_row};
 
 /// Whether it is a compound object without fields.
@@ -69,18 +69,20 @@ pub fn child_ok(alloc: Global, bytes: &[u8], tree: &Tree) -> Result<bool, NoMemo
     ensures { IfOk result (λ b. b ≡ child_ok bytes.now tree.now) }
 {
     match tree.kind {
-        0x02 => Ok(blob_row(bytes, tree).is_some()),
-        0x07 => is_row::<Root>(alloc, bytes, tree),
-        0x0A => is_row::<RevisionRoot>(alloc, bytes, tree),
-        0x0B => is_row::<ExGuid>(alloc, bytes, tree),
-        0x0C => is_row::<Guid>(alloc, bytes, tree),
-        0x0D => is_row::<RevisionMap>(alloc, bytes, tree),
-        0x0E => is_row::<CellMap>(alloc, bytes, tree),
-        0x11 => is_row::<ManifestMap>(alloc, bytes, tree),
-        0x19 => is_row::<ExGuid>(alloc, bytes, tree),
-        0x1A => is_row::<(ExGuid, ExGuid)>(alloc, bytes, tree),
-        0x1D => Ok(has_no_fields(bytes, tree)),
-        0x1E => Ok(has_no_fields(bytes, tree)),
+        object_types::OBJECT_DATA_BLOB => Ok(blob_row(bytes, tree).is_some()),
+        object_types::STORAGE_MANIFEST_ROOT_DECLARE => is_row::<Root>(alloc, bytes, tree),
+        object_types::REVISION_MANIFEST_ROOT_DECLARE => is_row::<RevisionRoot>(alloc, bytes, tree),
+        object_types::CELL_MANIFEST_CURRENT_REVISION => is_row::<ExGuid>(alloc, bytes, tree),
+        object_types::STORAGE_MANIFEST_SCHEMA_GUID => is_row::<Guid>(alloc, bytes, tree),
+        object_types::STORAGE_INDEX_REVISION_MAPPING => is_row::<RevisionMap>(alloc, bytes, tree),
+        object_types::STORAGE_INDEX_CELL_MAPPING => is_row::<CellMap>(alloc, bytes, tree),
+        object_types::STORAGE_INDEX_MANIFEST_MAPPING => is_row::<ManifestMap>(alloc, bytes, tree),
+        object_types::REVISION_MANIFEST_OBJECT_GROUP_REFERENCES => is_row::<ExGuid>(
+            alloc, bytes, tree,
+        ),
+        object_types::REVISION_MANIFEST => is_row::<(ExGuid, ExGuid)>(alloc, bytes, tree),
+        object_types::OBJECT_GROUP_DECLARATIONS => Ok(has_no_fields(bytes, tree)),
+        object_types::OBJECT_GROUP_DATA => Ok(has_no_fields(bytes, tree)),
         _ => Ok(true),
     }
 }

@@ -15,7 +15,7 @@ use doc_model::{
     Body, Element, Knowledge, Numbered, NumberedElement, Range, compact_size, exguid_size,
     serial_size,
 };
-use stream_objects::{begin, finish, start};
+use stream_objects::{begin, finish, object_types, start};
 use wire_kinds::{write_row, write_rows};
 
 /// The GUID of cell knowledge.
@@ -49,24 +49,52 @@ fn write_body(out: &mut Octets, body: &Body) -> Result<(), NoMemory>
             cells,
             revisions,
         } => {
-            write_rows(out, 0x11, manifests.as_slice())?;
-            write_rows(out, 0x0E, cells.as_slice())?;
-            write_rows(out, 0x0D, revisions.as_slice())
+            write_rows(
+                out,
+                object_types::STORAGE_INDEX_MANIFEST_MAPPING,
+                manifests.as_slice(),
+            )?;
+            write_rows(
+                out,
+                object_types::STORAGE_INDEX_CELL_MAPPING,
+                cells.as_slice(),
+            )?;
+            write_rows(
+                out,
+                object_types::STORAGE_INDEX_REVISION_MAPPING,
+                revisions.as_slice(),
+            )
         }
         Body::Storage { schema, roots } => {
-            write_row(out, 0x0C, schema)?;
-            write_rows(out, 0x07, roots.as_slice())
+            write_row(out, object_types::STORAGE_MANIFEST_SCHEMA_GUID, schema)?;
+            write_rows(
+                out,
+                object_types::STORAGE_MANIFEST_ROOT_DECLARE,
+                roots.as_slice(),
+            )
         }
-        Body::Cell { current } => write_row(out, 0x0B, current),
+        Body::Cell { current } => write_row(
+            out,
+            object_types::CELL_MANIFEST_CURRENT_REVISION,
+            current,
+        ),
         Body::Revision {
             id,
             base,
             roots,
             groups,
         } => {
-            write_row(out, 0x1A, &(*id, *base))?;
-            write_rows(out, 0x0A, roots.as_slice())?;
-            write_rows(out, 0x19, groups.as_slice())
+            write_row(out, object_types::REVISION_MANIFEST, &(*id, *base))?;
+            write_rows(
+                out,
+                object_types::REVISION_MANIFEST_ROOT_DECLARE,
+                roots.as_slice(),
+            )?;
+            write_rows(
+                out,
+                object_types::REVISION_MANIFEST_OBJECT_GROUP_REFERENCES,
+                groups.as_slice(),
+            )
         }
         Body::Group { objects } => write_objects(out, objects.as_slice()),
         Body::Blob { bytes } => write_blob(out, bytes.as_slice()),
@@ -81,7 +109,7 @@ fn write_head(out: &mut Octets, element: &Element, number: &Serial) -> Result<()
 {
     let kind = kind_number(&element.body);
     let size = exguid_size(&element.id) + serial_size(number) + compact_size(kind);
-    start(out, 0x01, true, size)?;
+    start(out, object_types::DATA_ELEMENT, true, size)?;
     write_exguid(out, &element.id)?;
     write_serial(out, number)?;
     write_compact(out, kind)
@@ -95,7 +123,7 @@ fn append_element(out: &mut Octets, element: &Element, number: &Serial) -> Resul
 {
     write_head(out, element, number)?;
     write_body(out, &element.body)?;
-    finish(out, 0x01)
+    finish(out, object_types::DATA_ELEMENT)
 }
 
 /// Adds the written form of an element with a serial number (MS-FSSHTTPB 2.2.1.12.1) at the end. Without memory nothing is
@@ -146,9 +174,9 @@ fn append_package(
     ensures ok { OnOk result (out.new ≡ out.old ++ package_bytes guid elements.now) }
     ensures err { OnErr result (take (length out.old) out.new ≡ out.old) }
 {
-    begin(out, 0x15, true, &[0])?;
+    begin(out, object_types::DATA_ELEMENT_PACKAGE, true, &[0])?;
     append_each(out, guid, elements)?;
-    finish(out, 0x15)
+    finish(out, object_types::DATA_ELEMENT_PACKAGE)
 }
 
 /// Adds the written form of a package at the end (MS-FSSHTTPB 2.2.1.12): the elements in order, each with its number as a
@@ -172,7 +200,7 @@ fn append_range(out: &mut Octets, range: &Range) -> Result<(), NoMemory>
     ensures err { OnErr result (take (length out.old) out.new ≡ out.old) }
 {
     let size = 16 + compact_size(range.from) + compact_size(range.to);
-    start(out, 0x0F, false, size)?;
+    start(out, object_types::CELL_KNOWLEDGE_RANGE, false, size)?;
     write_guid(out, range.guid)?;
     write_compact(out, range.from)?;
     write_compact(out, range.to)
@@ -195,9 +223,9 @@ fn append_ranges(out: &mut Octets, ranges: &[Range]) -> Result<(), NoMemory>
     ensures ok { OnOk result (out.new ≡ out.old ++ ranges_bytes ranges.now) }
     ensures err { OnErr result (take (length out.old) out.new ≡ out.old) }
 {
-    begin(out, 0x14, true, &[])?;
+    begin(out, object_types::CELL_KNOWLEDGE, true, &[])?;
     append_each_range(out, ranges)?;
-    finish(out, 0x14)
+    finish(out, object_types::CELL_KNOWLEDGE)
 }
 
 // The object of cell knowledge.
@@ -206,9 +234,14 @@ fn append_cell_knowledge(out: &mut Octets, ranges: &[Range]) -> Result<(), NoMem
     ensures ok { OnOk result (out.new ≡ out.old ++ cell_knowledge_bytes ranges.now) }
     ensures err { OnErr result (take (length out.old) out.new ≡ out.old) }
 {
-    begin(out, 0x44, true, &guid_bytes(CELL_KNOWLEDGE))?;
+    begin(
+        out,
+        object_types::SPECIALIZED_KNOWLEDGE,
+        true,
+        &guid_bytes(CELL_KNOWLEDGE),
+    )?;
     append_ranges(out, ranges)?;
-    finish(out, 0x44)
+    finish(out, object_types::SPECIALIZED_KNOWLEDGE)
 }
 
 // Knowledge. Without memory only a part of it is written.
@@ -217,9 +250,9 @@ fn append_knowledge(out: &mut Octets, ranges: &[Range]) -> Result<(), NoMemory>
     ensures ok { OnOk result (out.new ≡ out.old ++ knowledge_bytes (record { ranges = ranges.now })) }
     ensures err { OnErr result (take (length out.old) out.new ≡ out.old) }
 {
-    begin(out, 0x10, true, &[])?;
+    begin(out, object_types::KNOWLEDGE, true, &[])?;
     append_cell_knowledge(out, ranges)?;
-    finish(out, 0x10)
+    finish(out, object_types::KNOWLEDGE)
 }
 
 /// Adds the written form of knowledge at the end (MS-FSSHTTPB 2.2.1.13): its ranges in order, in the two objects of cell

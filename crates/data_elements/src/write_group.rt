@@ -11,7 +11,7 @@ use compact_values::{
     ExGuid, NoMemory, Octets, write_cells, write_compact, write_exguid, write_ids, write_item,
 };
 use doc_model::{Content, Object, data_size, declaration_size, item_size};
-use stream_objects::{finish, start};
+use stream_objects::{finish, object_types, start};
 
 // The numbers of references, which end a declaration.
 fn write_counts(out: &mut Octets, object: &Object) -> Result<(), NoMemory>
@@ -73,8 +73,8 @@ fn declaration_kind(content: &Content) -> u16
     ensures { result ≡ declaration_kind content.now }
 {
     match content {
-        Content::Inline { bytes: _ } => 0x18,
-        Content::Apart { blob: _ } => 0x05,
+        Content::Inline { bytes: _ } => object_types::OBJECT_GROUP_OBJECT_DECLARE,
+        Content::Apart { blob: _ } => object_types::OBJECT_GROUP_OBJECT_BLOB_DATA_DECLARATION,
     }
 }
 
@@ -110,9 +110,9 @@ fn write_declarations(out: &mut Octets, objects: &[Object]) -> Result<(), NoMemo
     ensures ok { OnOk result (out.new ≡ out.old ++ declarations_bytes objects.now) }
     ensures err { OnErr result (take (length out.old) out.new ≡ out.old) }
 {
-    start(out, 0x1D, true, 0)?;
+    start(out, object_types::OBJECT_GROUP_DECLARATIONS, true, 0)?;
     write_each_declaration(out, objects)?;
-    finish(out, 0x1D)
+    finish(out, object_types::OBJECT_GROUP_DECLARATIONS)
 }
 
 // The fields of data.
@@ -133,8 +133,8 @@ fn data_kind(content: &Content) -> u16
     ensures { result ≡ data_kind content.now }
 {
     match content {
-        Content::Inline { bytes: _ } => 0x16,
-        Content::Apart { blob: _ } => 0x1C,
+        Content::Inline { bytes: _ } => object_types::OBJECT_GROUP_OBJECT_DATA,
+        Content::Apart { blob: _ } => object_types::OBJECT_GROUP_OBJECT_DATA_BLOB_REFERENCE,
     }
 }
 
@@ -169,9 +169,9 @@ fn write_datas(out: &mut Octets, objects: &[Object]) -> Result<(), NoMemory>
     ensures ok { OnOk result (out.new ≡ out.old ++ datas_bytes objects.now) }
     ensures err { OnErr result (take (length out.old) out.new ≡ out.old) }
 {
-    start(out, 0x1E, true, 0)?;
+    start(out, object_types::OBJECT_GROUP_DATA, true, 0)?;
     write_each_data(out, objects)?;
-    finish(out, 0x1E)
+    finish(out, object_types::OBJECT_GROUP_DATA)
 }
 
 // The objects of a group: their declarations, and then their data.
@@ -193,6 +193,6 @@ pub fn write_blob(out: &mut Octets, bytes: &[u8]) -> Result<(), NoMemory>
     if size > u64::MAX as u128 {
         return Err(NoMemory);
     }
-    start(out, 0x02, false, size as u64)?;
+    start(out, object_types::OBJECT_DATA_BLOB, false, size as u64)?;
     write_item(out, bytes)
 }

@@ -13,6 +13,7 @@ use Rattle.stream_objects.specs.declared.tree.Tree.{Tree}
 use Rattle.stream_objects.specs.declared.tree.Tree.TheViews.{out-Tree}
 use Rattle.stream_objects.specs.Objects.{HasOne, kind_of, is_kind, start_of, children_of}
 use Rattle.stream_objects.specs.ObjectFields.{compound_fields}
+use Rattle.stream_objects.specs.declared.object_types.TheConstants.{CELL_MANIFEST_CURRENT_REVISION, DATA_ELEMENT, OBJECT_DATA_BLOB, OBJECT_GROUP_DATA, OBJECT_GROUP_DECLARATIONS, OBJECT_GROUP_OBJECT_BLOB_DATA_DECLARATION, OBJECT_GROUP_OBJECT_DATA, OBJECT_GROUP_OBJECT_DATA_BLOB_REFERENCE, OBJECT_GROUP_OBJECT_DECLARE, REVISION_MANIFEST, REVISION_MANIFEST_OBJECT_GROUP_REFERENCES, REVISION_MANIFEST_ROOT_DECLARE, STORAGE_INDEX_CELL_MAPPING, STORAGE_INDEX_MANIFEST_MAPPING, STORAGE_INDEX_REVISION_MAPPING, STORAGE_MANIFEST_ROOT_DECLARE, STORAGE_MANIFEST_SCHEMA_GUID}
 use Rattle.doc_model.specs.ElementObjects.{NoFields, PackageFields, ElementFields, ObjectDeclaration, BlobDeclaration, ObjectData, BlobReference, BlobContent}
 use Rattle.doc_model.specs.Groups.{HalvesAgree, declarations_in, data_in}
 use Rattle.doc_model.specs.declared.element.ManifestMap.{ManifestMap}
@@ -33,33 +34,33 @@ pub data Part : Type 0 where
 -- The kind is known, and of what comes once there is one.
 pub record KindInForm (input : List ℕ) (kind : ℕ) (t : Tree) : Type 0 where
   pub known : (kind ≡ 1) ⊎ ((kind ≡ 2) ⊎ ((kind ≡ 3) ⊎ ((kind ≡ 4) ⊎ ((kind ≡ 5) ⊎ (kind ≡ 10)))))
-  pub storage : kind ≡ 2 → HasOne 0x0C t
-  pub cell : kind ≡ 3 → HasOne 0x0B t
-  pub revision : kind ≡ 4 → HasOne 0x1A t
+  pub storage : kind ≡ 2 → HasOne STORAGE_MANIFEST_SCHEMA_GUID t
+  pub cell : kind ≡ 3 → HasOne CELL_MANIFEST_CURRENT_REVISION t
+  pub revision : kind ≡ 4 → HasOne REVISION_MANIFEST t
   pub group : kind ≡ 5 → HalvesAgree input t
-  pub blob : kind ≡ 10 → HasOne 0x02 t
+  pub blob : kind ≡ 10 → HasOne OBJECT_DATA_BLOB t
 
 -- Its fields are those of its type.
 pub record ChildInForm (input : List ℕ) (t : Tree) : Type 0 where
-  pub blob : kind_of t ≡ 0x02 → (v : List ℕ) × BlobContent input t v
-  pub manifest_root : kind_of t ≡ 0x07 → (v : Root) × IsOf manifest_root input t v
-  pub revision_root : kind_of t ≡ 0x0A → (v : RevisionRoot) × IsOf revision_root input t v
-  pub current : kind_of t ≡ 0x0B → (v : ExGuid) × IsOf current_revision input t v
-  pub schema : kind_of t ≡ 0x0C → (v : Guid) × IsOf schema_guid input t v
-  pub revision_mapping : kind_of t ≡ 0x0D → (v : RevisionMap) × IsOf revision_mapping input t v
-  pub cell_mapping : kind_of t ≡ 0x0E → (v : CellMap) × IsOf cell_mapping input t v
-  pub manifest_mapping : kind_of t ≡ 0x11 → (v : ManifestMap) × IsOf manifest_mapping input t v
-  pub group : kind_of t ≡ 0x19 → (v : ExGuid) × IsOf group_reference input t v
-  pub revision : kind_of t ≡ 0x1A → (v : ExGuid × ExGuid) × IsOf revision_manifest input t v
-  pub declarations : kind_of t ≡ 0x1D → NoFields input t
-  pub data_of : kind_of t ≡ 0x1E → NoFields input t
+  pub blob : kind_of t ≡ OBJECT_DATA_BLOB → (v : List ℕ) × BlobContent input t v
+  pub manifest_root : kind_of t ≡ STORAGE_MANIFEST_ROOT_DECLARE → (v : Root) × IsOf manifest_root input t v
+  pub revision_root : kind_of t ≡ REVISION_MANIFEST_ROOT_DECLARE → (v : RevisionRoot) × IsOf revision_root input t v
+  pub current : kind_of t ≡ CELL_MANIFEST_CURRENT_REVISION → (v : ExGuid) × IsOf current_revision input t v
+  pub schema : kind_of t ≡ STORAGE_MANIFEST_SCHEMA_GUID → (v : Guid) × IsOf schema_guid input t v
+  pub revision_mapping : kind_of t ≡ STORAGE_INDEX_REVISION_MAPPING → (v : RevisionMap) × IsOf revision_mapping input t v
+  pub cell_mapping : kind_of t ≡ STORAGE_INDEX_CELL_MAPPING → (v : CellMap) × IsOf cell_mapping input t v
+  pub manifest_mapping : kind_of t ≡ STORAGE_INDEX_MANIFEST_MAPPING → (v : ManifestMap) × IsOf manifest_mapping input t v
+  pub group : kind_of t ≡ REVISION_MANIFEST_OBJECT_GROUP_REFERENCES → (v : ExGuid) × IsOf group_reference input t v
+  pub revision : kind_of t ≡ REVISION_MANIFEST → (v : ExGuid × ExGuid) × IsOf revision_manifest input t v
+  pub declarations : kind_of t ≡ OBJECT_GROUP_DECLARATIONS → NoFields input t
+  pub data_of : kind_of t ≡ OBJECT_GROUP_DATA → NoFields input t
 
 -- Its fields are those of its type.
 pub record MemberInForm (input : List ℕ) (t : Tree) : Type 0 where
-  pub blob_declaration : kind_of t ≡ 0x05 → (id : ExGuid) × (blob : ExGuid) × (partition : ℕ) × (size : ℕ) × BlobDeclaration input t id blob partition size
-  pub object_data : kind_of t ≡ 0x16 → (references : List ExGuid) × (cells : List CellId) × (bytes : List ℕ) × ObjectData input t references cells bytes
-  pub declaration : kind_of t ≡ 0x18 → (id : ExGuid) × (partition : ℕ) × (size : ℕ) × ObjectDeclaration input t id partition size
-  pub blob_reference : kind_of t ≡ 0x1C → (references : List ExGuid) × (cells : List CellId) × (blob : ExGuid) × BlobReference input t references cells blob
+  pub blob_declaration : kind_of t ≡ OBJECT_GROUP_OBJECT_BLOB_DATA_DECLARATION → (id : ExGuid) × (blob : ExGuid) × (partition : ℕ) × (size : ℕ) × BlobDeclaration input t id blob partition size
+  pub object_data : kind_of t ≡ OBJECT_GROUP_OBJECT_DATA → (references : List ExGuid) × (cells : List CellId) × (bytes : List ℕ) × ObjectData input t references cells bytes
+  pub declaration : kind_of t ≡ OBJECT_GROUP_OBJECT_DECLARE → (id : ExGuid) × (partition : ℕ) × (size : ℕ) × ObjectDeclaration input t id partition size
+  pub blob_reference : kind_of t ≡ OBJECT_GROUP_OBJECT_DATA_BLOB_REFERENCE → (references : List ExGuid) × (cells : List CellId) × (blob : ExGuid) × BlobReference input t references cells blob
 
 -- The object is in its form, whatever its children are for themselves.
 abbrev pub InOwnForm : List ℕ → Part → Type 0
@@ -84,18 +85,18 @@ element_row input t = option_and_then (λ b. if_all (take_both take_exguid (take
 -- whether an object of its type has a place in an element of a kind
 abbrev pub has_place : ℕ → Tree → Bool
 has_place kind t =
-    if kind == 1 then is_kind 0x11 t || is_kind 0x0E t || is_kind 0x0D t
-    else if kind == 2 then is_kind 0x0C t || is_kind 0x07 t
-    else if kind == 3 then is_kind 0x0B t
-    else if kind == 4 then is_kind 0x1A t || is_kind 0x0A t || is_kind 0x19 t
-    else if kind == 5 then is_kind 0x1D t || is_kind 0x1E t
-    else is_kind 0x02 t
+    if kind == 1 then is_kind STORAGE_INDEX_MANIFEST_MAPPING t || is_kind STORAGE_INDEX_CELL_MAPPING t || is_kind STORAGE_INDEX_REVISION_MAPPING t
+    else if kind == 2 then is_kind STORAGE_MANIFEST_SCHEMA_GUID t || is_kind STORAGE_MANIFEST_ROOT_DECLARE t
+    else if kind == 3 then is_kind CELL_MANIFEST_CURRENT_REVISION t
+    else if kind == 4 then is_kind REVISION_MANIFEST t || is_kind REVISION_MANIFEST_ROOT_DECLARE t || is_kind REVISION_MANIFEST_OBJECT_GROUP_REFERENCES t
+    else if kind == 5 then is_kind OBJECT_GROUP_DECLARATIONS t || is_kind OBJECT_GROUP_DATA t
+    else is_kind OBJECT_DATA_BLOB t
 
 -- what a child of a group holds
 abbrev pub members_in : Tree → List Tree
 members_in t =
-    if is_kind 0x1D t then declarations_in t
-    else if is_kind 0x1E t then data_in t
+    if is_kind OBJECT_GROUP_DECLARATIONS t then declarations_in t
+    else if is_kind OBJECT_GROUP_DATA t then data_in t
     else []
 
 -- a child and, in a group, what it holds
@@ -113,4 +114,4 @@ abbrev pub element_parts : List ℕ → Tree → List Part
 element_parts input t = element t ∷ parts_behind (element_row input t) (out-Tree t).children
 
 abbrev pub package_parts : List ℕ → Tree → List Part
-package_parts input t = package_object t ∷ flat_map (element_parts input) (children_of 0x01 t)
+package_parts input t = package_object t ∷ flat_map (element_parts input) (children_of DATA_ELEMENT t)

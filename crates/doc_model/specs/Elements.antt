@@ -4,6 +4,7 @@ use Rattle.std.specs.Prelude.{◌≡◌, ℕ, List}
 use Rattle.compact_values.specs.declared.ids.Serial.{Serial}
 use Rattle.stream_objects.specs.declared.tree.Tree.{Tree}
 use Rattle.stream_objects.specs.Objects.{One, Any}
+use Rattle.stream_objects.specs.declared.object_types.TheConstants.{CELL_MANIFEST_CURRENT_REVISION, DATA_ELEMENT, OBJECT_DATA_BLOB, REVISION_MANIFEST, REVISION_MANIFEST_OBJECT_GROUP_REFERENCES, REVISION_MANIFEST_ROOT_DECLARE, STORAGE_INDEX_CELL_MAPPING, STORAGE_INDEX_MANIFEST_MAPPING, STORAGE_INDEX_REVISION_MAPPING, STORAGE_MANIFEST_ROOT_DECLARE, STORAGE_MANIFEST_SCHEMA_GUID}
 use Rattle.doc_model.specs.ElementObjects.{PackageFields, ElementFields, BlobContent}
 use Rattle.doc_model.specs.Groups.{SaysGroup}
 use Rattle.doc_model.specs.declared.element.Element.{Element}
@@ -16,13 +17,13 @@ use Rattle.doc_model.specs.ElementRows.{manifest_mapping, cell_mapping, revision
 -- manifest, 4 revision manifest, 5 object group, 10 object data blob. "One" is exactly one, "any" is any number.
 abbrev pub SaysBody : List ℕ → Tree → ℕ → Body → Type 0
 SaysBody input t kind (Index manifests cells revisions) =
-    (kind ≡ 1) × Any 0x11 (IsOf manifest_mapping input) t manifests × Any 0x0E (IsOf cell_mapping input) t cells × Any 0x0D (IsOf revision_mapping input) t revisions
-SaysBody input t kind (Storage schema roots) = (kind ≡ 2) × One 0x0C (IsOf schema_guid input) t schema × Any 0x07 (IsOf manifest_root input) t roots
-SaysBody input t kind (Cell current) = (kind ≡ 3) × One 0x0B (IsOf current_revision input) t current
+    (kind ≡ 1) × Any STORAGE_INDEX_MANIFEST_MAPPING (IsOf manifest_mapping input) t manifests × Any STORAGE_INDEX_CELL_MAPPING (IsOf cell_mapping input) t cells × Any STORAGE_INDEX_REVISION_MAPPING (IsOf revision_mapping input) t revisions
+SaysBody input t kind (Storage schema roots) = (kind ≡ 2) × One STORAGE_MANIFEST_SCHEMA_GUID (IsOf schema_guid input) t schema × Any STORAGE_MANIFEST_ROOT_DECLARE (IsOf manifest_root input) t roots
+SaysBody input t kind (Cell current) = (kind ≡ 3) × One CELL_MANIFEST_CURRENT_REVISION (IsOf current_revision input) t current
 SaysBody input t kind (Revision id base roots groups) =
-    (kind ≡ 4) × One 0x1A (IsOf revision_manifest input) t (id, base) × Any 0x0A (IsOf revision_root input) t roots × Any 0x19 (IsOf group_reference input) t groups
+    (kind ≡ 4) × One REVISION_MANIFEST (IsOf revision_manifest input) t (id, base) × Any REVISION_MANIFEST_ROOT_DECLARE (IsOf revision_root input) t roots × Any REVISION_MANIFEST_OBJECT_GROUP_REFERENCES (IsOf group_reference input) t groups
 SaysBody input t kind (Group objects) = (kind ≡ 5) × SaysGroup input t objects
-SaysBody input t kind (Blob bytes) = (kind ≡ 10) × One 0x02 (BlobContent input) t bytes
+SaysBody input t kind (Blob bytes) = (kind ≡ 10) × One OBJECT_DATA_BLOB (BlobContent input) t bytes
 
 -- an element with its serial number
 abbrev pub IsElementWith : List ℕ → Tree → Serial → Element → Type 0
@@ -34,4 +35,4 @@ IsElement input t e = (serial : Serial) × IsElementWith input t serial e
 
 -- 15, a package: any number of elements
 abbrev pub IsPackage : List ℕ → Tree → List Element → Type 0
-IsPackage input t elements = PackageFields input t × Any 0x01 (IsElement input) t elements
+IsPackage input t elements = PackageFields input t × Any DATA_ELEMENT (IsElement input) t elements

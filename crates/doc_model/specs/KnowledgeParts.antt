@@ -7,6 +7,7 @@ use Rattle.stream_objects.specs.declared.tree.Tree.{Tree}
 use Rattle.stream_objects.specs.declared.tree.Tree.TheViews.{out-Tree}
 use Rattle.stream_objects.specs.Objects.{HasOne, is_kind, start_of, children_of}
 use Rattle.stream_objects.specs.ObjectFields.{compound_fields}
+use Rattle.stream_objects.specs.declared.object_types.TheConstants.{CELL_KNOWLEDGE, SPECIALIZED_KNOWLEDGE}
 use Rattle.doc_model.specs.ElementObjects.{NoFields}
 use Rattle.doc_model.specs.Knowledges.{cell_knowledge, SpecializedFields, AddsRanges}
 use Rattle.doc_model.specs.declared.knowledge.Range.{Range}
@@ -21,7 +22,7 @@ pub data Part : Type 0 where
 -- The object is in its form, whatever its children are for themselves.
 abbrev pub InOwnForm : List ℕ → Part → Type 0
 InOwnForm input (knowledge t) = NoFields input t
-InOwnForm input (specialized t) = (g : Guid) × SpecializedFields input t g × (g.number ≡ cell_knowledge → HasOne 0x14 t)
+InOwnForm input (specialized t) = (g : Guid) × SpecializedFields input t g × (g.number ≡ cell_knowledge → HasOne CELL_KNOWLEDGE t)
 InOwnForm input (cells t) = NoFields input t
 InOwnForm input (added t) = (ranges : List Range) × AddsRanges input t ranges
 
@@ -45,7 +46,7 @@ cells_behind (Some g) ts = if g.number == cell_knowledge then flat_map cells_par
 cells_behind None ts = []
 
 abbrev pub specialized_parts : List ℕ → Tree → List Part
-specialized_parts input t = if is_kind 0x44 t then specialized t ∷ cells_behind (guid_row input t) (children_of 0x14 t) else []
+specialized_parts input t = if is_kind SPECIALIZED_KNOWLEDGE t then specialized t ∷ cells_behind (guid_row input t) (children_of CELL_KNOWLEDGE t) else []
 
 abbrev pub knowledge_parts : List ℕ → Tree → List Part
 knowledge_parts input t = knowledge t ∷ flat_map (specialized_parts input) (out-Tree t).children

@@ -10,6 +10,7 @@ use Rattle.stream_objects.specs.declared.tree.Tree.{Tree}
 use Rattle.stream_objects.specs.declared.tree.Tree.TheViews.{out-Tree}
 use Rattle.stream_objects.specs.Objects.{HasFields, One, kind_of}
 use Rattle.stream_objects.specs.Gathering.{Gathers}
+use Rattle.stream_objects.specs.declared.object_types.TheConstants.{CELL_KNOWLEDGE, CELL_KNOWLEDGE_ENTRY, CELL_KNOWLEDGE_RANGE, SPECIALIZED_KNOWLEDGE}
 use Rattle.doc_model.specs.ElementObjects.{NoFields}
 use Rattle.doc_model.specs.declared.knowledge.Knowledge.{Knowledge}
 use Rattle.doc_model.specs.declared.knowledge.Range.{Range}
@@ -37,9 +38,9 @@ entry_ranges (Number guid value) = record { guid = guid; from = value; to = valu
 
 -- what a child of a 14 adds: 0F its range, 17 its serial number, others nothing
 pub record AddsRanges (input : List ℕ) (t : Tree) (ranges : List Range) : Type 0 where
-  pub range : kind_of t ≡ 0x0F → (r : Range) × RangeFields input t r × (ranges ≡ r ∷ [])
-  pub entry : kind_of t ≡ 0x17 → (s : Serial) × EntryFields input t s × (ranges ≡ entry_ranges s)
-  pub other : kind_of t ≢ 0x0F → kind_of t ≢ 0x17 → ranges ≡ []
+  pub range : kind_of t ≡ CELL_KNOWLEDGE_RANGE → (r : Range) × RangeFields input t r × (ranges ≡ r ∷ [])
+  pub entry : kind_of t ≡ CELL_KNOWLEDGE_ENTRY → (s : Serial) × EntryFields input t s × (ranges ≡ entry_ranges s)
+  pub other : kind_of t ≢ CELL_KNOWLEDGE_RANGE → kind_of t ≢ CELL_KNOWLEDGE_ENTRY → ranges ≡ []
 
 -- 14, compound, cell knowledge
 abbrev pub SaysCells : List ℕ → Tree → List Range → Type 0
@@ -47,8 +48,8 @@ SaysCells input t ranges = NoFields input t × Gathers (AddsRanges input) (out-T
 
 -- What a child of a 10 adds: a 44 with the GUID of cell knowledge holds one 14. A 44 with another GUID is skipped.
 pub record AddsCells (input : List ℕ) (t : Tree) (ranges : List Range) : Type 0 where
-  pub specialized : kind_of t ≡ 0x44 → (g : Guid) × SpecializedFields input t g × (g.number ≡ cell_knowledge → One 0x14 (SaysCells input) t ranges) × (g.number ≢ cell_knowledge → ranges ≡ [])
-  pub other : kind_of t ≢ 0x44 → ranges ≡ []
+  pub specialized : kind_of t ≡ SPECIALIZED_KNOWLEDGE → (g : Guid) × SpecializedFields input t g × (g.number ≡ cell_knowledge → One CELL_KNOWLEDGE (SaysCells input) t ranges) × (g.number ≢ cell_knowledge → ranges ≡ [])
+  pub other : kind_of t ≢ SPECIALIZED_KNOWLEDGE → ranges ≡ []
 
 -- 10, compound, knowledge
 abbrev pub SaysKnowledge : List ℕ → Tree → List Range → Type 0

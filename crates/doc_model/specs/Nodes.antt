@@ -9,6 +9,7 @@ use Rattle.stream_objects.specs.Objects.{is_kind, children_of}
 use Rattle.stream_objects.specs.ObjectFields.{simple_fields, compound_fields, single}
 use Rattle.stream_objects.specs.TreeReading.{tree_of}
 use Rattle.stream_objects.specs.Written.{simple_object, compound_object}
+use Rattle.stream_objects.specs.declared.object_types.TheConstants.{DATA_SIZE, INTERMEDIATE_NODE, ROOT_NODE, SIGNATURE}
 
 -- ---- what is read
 
@@ -18,11 +19,11 @@ only_fields input kind t = option_and_then (simple_fields input) (single (childr
 
 -- 21, signature: binary item
 abbrev pub signature_said : List ℕ → Tree → Option (List ℕ)
-signature_said input t = option_and_then (λ b. if_all (take_item b)) (only_fields input 0x21 t)
+signature_said input t = option_and_then (λ b. if_all (take_item b)) (only_fields input SIGNATURE t)
 
 -- 22, data size: 8 bytes, little-endian
 abbrev pub size_said : List ℕ → Tree → Option ℕ
-size_said input t = option_and_then (λ b. if_all (take_long b)) (only_fields input 0x22 t)
+size_said input t = option_and_then (λ b. if_all (take_long b)) (only_fields input DATA_SIZE t)
 
 abbrev pub is_empty : Option (List ℕ) → Bool
 is_empty (Some []) = true
@@ -31,7 +32,7 @@ is_empty None = false
 
 -- 1F, intermediate node, or 20, root node, compound: no fields
 abbrev pub is_node : List ℕ → Tree → Bool
-is_node input t = (is_kind 0x1F t || is_kind 0x20 t) && is_empty (compound_fields input t)
+is_node input t = (is_kind INTERMEDIATE_NODE t || is_kind ROOT_NODE t) && is_empty (compound_fields input t)
 
 -- the data size of a node
 abbrev pub size_of_node : List ℕ → Tree → Option ℕ
@@ -45,4 +46,4 @@ node_size bytes = option_and_then (size_of_node bytes) (tree_of bytes)
 
 -- a node of type 1F or 20 with this signature and data size
 unfoldable pub node_bytes : ℕ → List ℕ → ℕ → List ℕ
-node_bytes kind signature size = compound_object kind [] (simple_object 0x21 (item signature) ++ simple_object 0x22 (little_endian 8 size))
+node_bytes kind signature size = compound_object kind [] (simple_object SIGNATURE (item signature) ++ simple_object DATA_SIZE (little_endian 8 size))

@@ -5,6 +5,7 @@ use Rattle.compact_values.specs.declared.ids.ExGuid.{ExGuid}
 use Rattle.compact_values.specs.declared.ids.Serial.TheVariants.{Number}
 use Rattle.stream_objects.specs.declared.tree.Tree.{Tree}
 use Rattle.stream_objects.specs.Objects.{Any}
+use Rattle.stream_objects.specs.declared.object_types.TheConstants.{DATA_ELEMENT}
 use Rattle.doc_model.specs.ElementObjects.{PackageFields, ElementFields}
 use Rattle.doc_model.specs.ElementParts.{Part, package_object, element, child, member}
 use Rattle.doc_model.specs.ElementParts as elements
@@ -17,7 +18,7 @@ IsNumbered input t n = (guid : Guid) × IsElementWith input t (Number guid n.ser
 
 -- 15, a package of them
 abbrev pub IsNumberedPackage : List ℕ → Tree → List NumberedElement → Type 0
-IsNumberedPackage input t ns = PackageFields input t × Any 0x01 (IsNumbered input) t ns
+IsNumberedPackage input t ns = PackageFields input t × Any DATA_ELEMENT (IsNumbered input) t ns
 
 -- its serial number isn't null
 abbrev pub HasSerial : List ℕ → Tree → Type 0

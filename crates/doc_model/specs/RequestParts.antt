@@ -7,6 +7,7 @@ use Rattle.stream_objects.specs.declared.tree.Tree.{Tree}
 use Rattle.stream_objects.specs.declared.tree.Tree.TheViews.{out-Tree}
 use Rattle.stream_objects.specs.Objects.{HasOne, kind_of, is_kind, start_of, children_of}
 use Rattle.stream_objects.specs.ObjectFields.{compound_fields}
+use Rattle.stream_objects.specs.declared.object_types.TheConstants.{ALLOCATE_EXTENDED_GUID_RANGE_REQUEST, DATA_ELEMENT_PACKAGE, PUT_CHANGES_REQUEST, QUERY_CHANGES_REQUEST, REQUEST, SUB_REQUEST}
 use Rattle.doc_model.specs.ElementParts as elements
 use Rattle.doc_model.specs.KnowledgeParts as knowledges
 use Rattle.doc_model.specs.Limits.{most_puts, most_sub_requests}
@@ -23,14 +24,14 @@ pub data Part : Type 0 where
 
 -- What a sub-request of its kind must hold is there once.
 pub record HoldsOnce (kind : ℕ) (t : Tree) : Type 0 where
-  pub query : kind ≡ 2 → HasOne 0x51 t
-  pub put : kind ≡ 5 → HasOne 0x5A t
-  pub allocate : kind ≡ 11 → HasOne 0x80 t
+  pub query : kind ≡ 2 → HasOne QUERY_CHANGES_REQUEST t
+  pub put : kind ≡ 5 → HasOne PUT_CHANGES_REQUEST t
+  pub allocate : kind ≡ 11 → HasOne ALLOCATE_EXTENDED_GUID_RANGE_REQUEST t
 
 -- The object is in its form, whatever its children are for themselves. A sub-request behind the 64th is not, and the
 -- fields of a put behind the fourth are not.
 abbrev pub InOwnForm : List ℕ → Part → Type 0
-InOwnForm input (request t) = (kind_of t ≡ 0x40) × ((out-Tree t).compound ≡ true) × HasOne 0x15 t
+InOwnForm input (request t) = (kind_of t ≡ REQUEST) × ((out-Tree t).compound ≡ true) × HasOne DATA_ELEMENT_PACKAGE t
 InOwnForm input (sub_request n t) = (n < most_sub_requests) × ((id : ℕ) × (kind : ℕ) × SubRequestFields input t id kind × HoldsOnce kind t)
 InOwnForm input (known p) = knowledges.InOwnForm input p
 InOwnForm input (put m t) = (m < most_puts) × ((fields : ExGuid × (ExGuid × ℕ)) × PutFields input t fields)
@@ -61,8 +62,8 @@ known_parts input None = []
 abbrev pub held_parts : List ℕ → ℕ → Tree → ℕ → List Part
 held_parts input m t kind =
     if kind == 2 then known_parts input (first_knowledge t)
-    else if kind == 5 then map (put m) (children_of 0x5A t)
-    else if kind == 11 then map allocate (children_of 0x80 t)
+    else if kind == 5 then map (put m) (children_of PUT_CHANGES_REQUEST t)
+    else if kind == 11 then map allocate (children_of ALLOCATE_EXTENDED_GUID_RANGE_REQUEST t)
     else []
 
 -- Where a sub-request has its fields, they tell what has a place in it.
@@ -83,8 +84,8 @@ puts_with m None = m
 abbrev pub child_parts : List ℕ → ℕ → ℕ → List Tree → List Part
 child_parts input n m [] = []
 child_parts input n m (t ∷ ts) =
-    if is_kind 0x42 t then sub_parts input n m t ++ child_parts input (suc n) (puts_with m (sub_row input t)) ts
-    else if is_kind 0x15 t then map packed (elements.package_parts input t) ++ child_parts input n m ts
+    if is_kind SUB_REQUEST t then sub_parts input n m t ++ child_parts input (suc n) (puts_with m (sub_row input t)) ts
+    else if is_kind DATA_ELEMENT_PACKAGE t then map packed (elements.package_parts input t) ++ child_parts input n m ts
     else child_parts input n m ts
 
 abbrev pub request_parts : List ℕ → Tree → List Part

@@ -10,6 +10,7 @@ use Rattle.stream_objects.specs.declared.tree.Tree.{Tree}
 use Rattle.stream_objects.specs.declared.tree.Tree.TheViews.{out-Tree}
 use Rattle.stream_objects.specs.Objects.{HasFields, HasOne, One, Any, kind_of, is_kind, fields_of}
 use Rattle.stream_objects.specs.Trees.{IsTreeAt}
+use Rattle.stream_objects.specs.declared.object_types.TheConstants.{ALLOCATE_EXTENDED_GUID_RANGE_REQUEST, DATA_ELEMENT_PACKAGE, KNOWLEDGE, PUT_CHANGES_REQUEST, QUERY_CHANGES_REQUEST, REQUEST, SUB_REQUEST}
 use Rattle.doc_model.specs.Elements.{IsPackage}
 use Rattle.doc_model.specs.Fronts.{HasVersions, HasSignature}
 use Rattle.doc_model.specs.Knowledges.{IsKnowledge}
@@ -35,7 +36,7 @@ AllocateFields input tree count = (flag : ℕ) × HasFields false (Begins (Spell
 
 -- The knowledge of a query is the first object of type 10 below the sub-request, wherever it stands.
 abbrev pub first_knowledge : Tree → Option Tree
-first_knowledge t = find (is_kind 0x10) (below t)
+first_knowledge t = find (is_kind KNOWLEDGE) (below t)
 
 -- Where there is none, nothing is known.
 abbrev pub IsKnown : List ℕ → Option Tree → Knowledge → Type 0
@@ -45,9 +46,9 @@ IsKnown input None knowledge = knowledge.ranges ≡ []
 -- What a sub-request of each kind holds: 1 nothing; 2 one 51, of which all is ignored; 5 one 5A; 11 one 80; others nothing.
 abbrev pub Holds : List ℕ → Tree → ℕ → WireKind → Type 0
 Holds input t kind Access = kind ≡ 1
-Holds input t kind (Pull knowledge) = (kind ≡ 2) × HasOne 0x51 t × IsKnown input (first_knowledge t) knowledge
-Holds input t kind (Put index expected flags) = (kind ≡ 5) × One 0x5A (PutFields input) t (index, (expected, flags))
-Holds input t kind (Draw count) = (kind ≡ 11) × One 0x80 (AllocateFields input) t count
+Holds input t kind (Pull knowledge) = (kind ≡ 2) × HasOne QUERY_CHANGES_REQUEST t × IsKnown input (first_knowledge t) knowledge
+Holds input t kind (Put index expected flags) = (kind ≡ 5) × One PUT_CHANGES_REQUEST (PutFields input) t (index, (expected, flags))
+Holds input t kind (Draw count) = (kind ≡ 11) × One ALLOCATE_EXTENDED_GUID_RANGE_REQUEST (AllocateFields input) t count
 Holds input t kind Unknown = (kind ≢ 1) × (kind ≢ 2) × (kind ≢ 5) × (kind ≢ 11)
 
 abbrev pub IsSub : List ℕ → Tree → WireSub → Type 0
@@ -66,12 +67,12 @@ puts_in subs = length (filter (λ s. is_put s.what) subs)
 
 -- 40, compound, request: all fields are ignored; any number of 42, up to 64 and of these up to 4 puts, and exactly one 15
 pub record SaysRequest (input : List ℕ) (tree : Tree) (request : CellRequest) : Type 0 where
-  pub kind : kind_of tree ≡ 0x40
+  pub kind : kind_of tree ≡ REQUEST
   pub mark : (out-Tree tree).compound ≡ true
-  pub subs : Any 0x42 (IsSub input) tree request.subs
+  pub subs : Any SUB_REQUEST (IsSub input) tree request.subs
   pub few_subs : length request.subs ≤ most_sub_requests
   pub few_puts : puts_in request.subs ≤ most_puts
-  pub one_package : One 0x15 (IsPackage input) tree request.elements
+  pub one_package : One DATA_ELEMENT_PACKAGE (IsPackage input) tree request.elements
 
 -- The bytes are a request: the front, a tree in the form of a request with at most 8,192 elements, and nothing more.
 pub record IsRequest (bytes : List ℕ) (request : CellRequest) : Type 0 where

@@ -10,6 +10,7 @@ use Rattle.stream_objects.specs.declared.tree.Tree.{Tree}
 use Rattle.stream_objects.specs.declared.tree.Tree.TheViews.{out-Tree}
 use Rattle.stream_objects.specs.Objects.{HasFields, HasOne, kind_of, is_kind, start_of, children_of}
 use Rattle.stream_objects.specs.ObjectFields.{compound_fields}
+use Rattle.stream_objects.specs.declared.object_types.TheConstants.{ALLOCATE_EXTENDED_GUID_RANGE_RESPONSE, CELL_ERROR, DATA_ELEMENT_PACKAGE, HRESULT_ERROR, KNOWLEDGE, QUERY_CHANGES_RESPONSE, READ_ACCESS_RESPONSE, RESPONSE, RESPONSE_ERROR, SUB_RESPONSE, WRITE_ACCESS_RESPONSE}
 use Rattle.doc_model.specs.ElementObjects.{NoFields}
 use Rattle.doc_model.specs.ElementParts as elements
 use Rattle.doc_model.specs.KnowledgeParts as knowledges
@@ -35,21 +36,21 @@ pub data Part : Type 0 where
 
 -- what a sub-response of this form holds
 abbrev pub HasPlaces : ReplyForm → Tree → Type 0
-HasPlaces Failed t = HasOne 0x4D t
-HasPlaces Access t = HasOne 0x43 t × HasOne 0x46 t
-HasPlaces Pulled t = HasOne 0x5F t × HasOne 0x10 t
-HasPlaces Stored t = HasOne 0x10 t
-HasPlaces Drawn t = HasOne 0x81 t
+HasPlaces Failed t = HasOne RESPONSE_ERROR t
+HasPlaces Access t = HasOne READ_ACCESS_RESPONSE t × HasOne WRITE_ACCESS_RESPONSE t
+HasPlaces Pulled t = HasOne QUERY_CHANGES_RESPONSE t × HasOne KNOWLEDGE t
+HasPlaces Stored t = HasOne KNOWLEDGE t
+HasPlaces Drawn t = HasOne ALLOCATE_EXTENDED_GUID_RANGE_RESPONSE t
 
 -- The object is in its form, whatever its children are for themselves.
 abbrev pub InOwnForm : List ℕ → Part → Type 0
-InOwnForm input (response t) = (kind_of t ≡ 0x62) × HasFields true SpellsByte input t 0 × HasOne 0x15 t
+InOwnForm input (response t) = (kind_of t ≡ RESPONSE) × HasFields true SpellsByte input t 0 × HasOne DATA_ELEMENT_PACKAGE t
 InOwnForm input (packed p) = numbered.InOwnForm input p
 InOwnForm input (sub_response t) = (id : ℕ) × (kind : ℕ) × (status : ℕ) × SubResponseFields input t id kind status × (form : ReplyForm) × (reply_form kind status ≡ Some form) × HasPlaces form t
-InOwnForm input (failure t) = ErrorFields input t cell_error × HasOne 0x66 t
+InOwnForm input (failure t) = ErrorFields input t cell_error × HasOne CELL_ERROR t
 InOwnForm input (failure_number t) = (number : ℕ) × ErrorNumber input t number
-InOwnForm input (access t) = NoFields input t × HasOne 0x4D t
-InOwnForm input (success t) = ErrorFields input t hresult_error × HasOne 0x52 t
+InOwnForm input (access t) = NoFields input t × HasOne RESPONSE_ERROR t
+InOwnForm input (success t) = ErrorFields input t hresult_error × HasOne HRESULT_ERROR t
 InOwnForm input (success_number t) = ErrorNumber input t 0
 InOwnForm input (query t) = (index : ExGuid) × QueryAnswer input t index
 InOwnForm input (known p) = knowledges.InOwnForm input p
@@ -72,13 +73,13 @@ part_start (allocate t) = start_of t
 -- ---- reading order
 
 abbrev pub failure_parts : Tree → List Part
-failure_parts t = failure t ∷ flat_map (λ c. failure_number c ∷ []) (children_of 0x66 t)
+failure_parts t = failure t ∷ flat_map (λ c. failure_number c ∷ []) (children_of CELL_ERROR t)
 
 abbrev pub success_parts : Tree → List Part
-success_parts t = success t ∷ flat_map (λ c. success_number c ∷ []) (children_of 0x52 t)
+success_parts t = success t ∷ flat_map (λ c. success_number c ∷ []) (children_of HRESULT_ERROR t)
 
 abbrev pub access_parts : Tree → List Part
-access_parts t = access t ∷ flat_map success_parts (children_of 0x4D t)
+access_parts t = access t ∷ flat_map success_parts (children_of RESPONSE_ERROR t)
 
 abbrev pub known_parts : List ℕ → Tree → List Part
 known_parts input t = map known (knowledges.knowledge_parts input t)
@@ -93,11 +94,11 @@ abbrev pub in_order : Bool → List Part → List Part → List Part
 in_order first one other = if first then one ++ other else other ++ one
 
 abbrev pub reply_parts : List ℕ → Tree → ReplyForm → List Part
-reply_parts input t Failed = flat_map failure_parts (children_of 0x4D t)
-reply_parts input t Access = in_order (comes_first 0x43 0x46 (out-Tree t).children) (flat_map access_parts (children_of 0x43 t)) (flat_map access_parts (children_of 0x46 t))
-reply_parts input t Pulled = in_order (comes_first 0x5F 0x10 (out-Tree t).children) (flat_map (λ c. query c ∷ []) (children_of 0x5F t)) (flat_map (known_parts input) (children_of 0x10 t))
-reply_parts input t Stored = flat_map (known_parts input) (children_of 0x10 t)
-reply_parts input t Drawn = flat_map (λ c. allocate c ∷ []) (children_of 0x81 t)
+reply_parts input t Failed = flat_map failure_parts (children_of RESPONSE_ERROR t)
+reply_parts input t Access = in_order (comes_first READ_ACCESS_RESPONSE WRITE_ACCESS_RESPONSE (out-Tree t).children) (flat_map access_parts (children_of READ_ACCESS_RESPONSE t)) (flat_map access_parts (children_of WRITE_ACCESS_RESPONSE t))
+reply_parts input t Pulled = in_order (comes_first QUERY_CHANGES_RESPONSE KNOWLEDGE (out-Tree t).children) (flat_map (λ c. query c ∷ []) (children_of QUERY_CHANGES_RESPONSE t)) (flat_map (known_parts input) (children_of KNOWLEDGE t))
+reply_parts input t Stored = flat_map (known_parts input) (children_of KNOWLEDGE t)
+reply_parts input t Drawn = flat_map (λ c. allocate c ∷ []) (children_of ALLOCATE_EXTENDED_GUID_RANGE_RESPONSE t)
 
 -- the fields of a sub-response, where it has them
 abbrev pub sub_row : List ℕ → Tree → Option (ℕ × (ℕ × ℕ))
@@ -117,8 +118,8 @@ sub_parts input t = sub_response t ∷ parts_behind input t (sub_row input t)
 
 abbrev pub child_parts : List ℕ → Tree → List Part
 child_parts input t =
-    if is_kind 0x41 t then sub_parts input t
-    else if is_kind 0x15 t then map packed (elements.package_parts input t)
+    if is_kind SUB_RESPONSE t then sub_parts input t
+    else if is_kind DATA_ELEMENT_PACKAGE t then map packed (elements.package_parts input t)
     else []
 
 abbrev pub response_parts : List ℕ → Tree → List Part

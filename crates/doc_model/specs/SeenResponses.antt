@@ -13,6 +13,7 @@ use Rattle.compact_values.specs.declared.ids.ExGuid.TheVariants.{Null}
 use Rattle.stream_objects.specs.declared.tree.Tree.{Tree}
 use Rattle.stream_objects.specs.Objects.{HasFields, One, Any, kind_of}
 use Rattle.stream_objects.specs.Trees.{IsTreeAt}
+use Rattle.stream_objects.specs.declared.object_types.TheConstants.{ALLOCATE_EXTENDED_GUID_RANGE_RESPONSE, CELL_ERROR, DATA_ELEMENT_PACKAGE, HRESULT_ERROR, KNOWLEDGE, QUERY_CHANGES_RESPONSE, READ_ACCESS_RESPONSE, RESPONSE, RESPONSE_ERROR, SUB_RESPONSE, WRITE_ACCESS_RESPONSE}
 use Rattle.doc_model.specs.ElementObjects.{NoFields}
 use Rattle.doc_model.specs.Knowledges.{IsKnowledge}
 use Rattle.doc_model.specs.Limits.{most_elements}
@@ -46,17 +47,17 @@ ErrorFields input t guid = HasFields true SpellsGuid input t guid
 
 -- 4D with the GUID of cell errors, which holds exactly one 66
 abbrev pub IsCellError : List ℕ → Tree → ℕ → Type 0
-IsCellError input t number = ErrorFields input t cell_error × One 0x66 (ErrorNumber input) t number
+IsCellError input t number = ErrorFields input t cell_error × One CELL_ERROR (ErrorNumber input) t number
 
 -- 4D with the GUID of HRESULT errors, which holds exactly one 52 with the number 0
 abbrev pub IsSuccess : List ℕ → Tree → Unit {0} → Type 0
-IsSuccess input t u = ErrorFields input t hresult_error × One 0x52 (ErrorNumber input) t 0
+IsSuccess input t u = ErrorFields input t hresult_error × One HRESULT_ERROR (ErrorNumber input) t 0
 
 -- ---- what a sub-response holds
 
 -- 43, compound, read access, and 46, compound, write access: no fields; exactly one 4D (2.2.3.1.1)
 abbrev pub IsAccess : List ℕ → Tree → Unit {0} → Type 0
-IsAccess input t u = NoFields input t × One 0x4D (IsSuccess input) t tt
+IsAccess input t u = NoFields input t × One RESPONSE_ERROR (IsSuccess input) t tt
 
 -- 5F, query answer: extended GUID index, and the byte 0, since the answer is whole (2.2.3.1.2)
 abbrev pub QueryAnswer : List ℕ → Tree → ExGuid → Type 0
@@ -97,13 +98,13 @@ blank id kind = record {
 
 -- what the children of a sub-response say, where it has this form
 abbrev pub Says : List ℕ → Tree → ℕ → ℕ → ReplyForm → Seen → Type 0
-Says input t id kind Failed seen = (n : ℕ) × One 0x4D (IsCellError input) t n × (seen ≡ record (blank id kind) { fault = Some n })
-Says input t id kind Access seen = One 0x43 (IsAccess input) t tt × One 0x46 (IsAccess input) t tt × (seen ≡ blank id kind)
+Says input t id kind Failed seen = (n : ℕ) × One RESPONSE_ERROR (IsCellError input) t n × (seen ≡ record (blank id kind) { fault = Some n })
+Says input t id kind Access seen = One READ_ACCESS_RESPONSE (IsAccess input) t tt × One WRITE_ACCESS_RESPONSE (IsAccess input) t tt × (seen ≡ blank id kind)
 Says input t id kind Pulled seen =
-    (i : ExGuid) × (k : Knowledge) × One 0x5F (QueryAnswer input) t i × One 0x10 (IsKnowledge input) t k × (seen ≡ record (blank id kind) { index = i; knowledge = k })
-Says input t id kind Stored seen = (k : Knowledge) × One 0x10 (IsKnowledge input) t k × (seen ≡ record (blank id kind) { knowledge = k })
+    (i : ExGuid) × (k : Knowledge) × One QUERY_CHANGES_RESPONSE (QueryAnswer input) t i × One KNOWLEDGE (IsKnowledge input) t k × (seen ≡ record (blank id kind) { index = i; knowledge = k })
+Says input t id kind Stored seen = (k : Knowledge) × One KNOWLEDGE (IsKnowledge input) t k × (seen ≡ record (blank id kind) { knowledge = k })
 Says input t id kind Drawn seen =
-    (x : Guid × (ℕ × ℕ)) × One 0x81 (AllocateAnswer input) t x × (seen ≡ record (blank id kind) { guid = x.0; least = x.1.0; greatest = x.1.1 })
+    (x : Guid × (ℕ × ℕ)) × One ALLOCATE_EXTENDED_GUID_RANGE_RESPONSE (AllocateAnswer input) t x × (seen ≡ record (blank id kind) { guid = x.0; least = x.1.0; greatest = x.1.1 })
 
 -- a sub-response
 pub record IsSeen (input : List ℕ) (t : Tree) (seen : Seen) : Type 0 where
@@ -119,10 +120,10 @@ pub record IsSeen (input : List ℕ) (t : Tree) (seen : Seen) : Type 0 where
 
 -- 62, compound, response: the byte 0; exactly one 15 and any number of 41
 pub record IsCellResponse (input : List ℕ) (t : Tree) (response : CellResponse) : Type 0 where
-  pub kind : kind_of t ≡ 0x62
+  pub kind : kind_of t ≡ RESPONSE
   pub fields : HasFields true SpellsByte input t 0
-  pub elements : One 0x15 (IsNumberedPackage input) t response.elements
-  pub answers : Any 0x41 (IsSeen input) t response.answers
+  pub elements : One DATA_ELEMENT_PACKAGE (IsNumberedPackage input) t response.elements
+  pub answers : Any SUB_RESPONSE (IsSeen input) t response.answers
 
 -- The front is version 12 and least version 11, each in 2 bytes, and the signature of responses.
 pub record HasVersions (bytes : List ℕ) : Type 0 where

@@ -10,6 +10,7 @@ use Rattle.compact_values.specs.declared.guid.Guid.{Guid}
 use Rattle.compact_values.specs.declared.ids.Serial.{Serial}
 use Rattle.compact_values.specs.declared.ids.Serial.TheVariants.{Number}
 use Rattle.stream_objects.specs.Written.{simple_object, compound_object}
+use Rattle.stream_objects.specs.declared.object_types.TheConstants.{CELL_KNOWLEDGE, CELL_KNOWLEDGE_RANGE, DATA_ELEMENT, DATA_ELEMENT_PACKAGE, KNOWLEDGE, OBJECT_DATA_BLOB, OBJECT_GROUP_DATA, OBJECT_GROUP_DECLARATIONS, OBJECT_GROUP_OBJECT_BLOB_DATA_DECLARATION, OBJECT_GROUP_OBJECT_DATA, OBJECT_GROUP_OBJECT_DATA_BLOB_REFERENCE, OBJECT_GROUP_OBJECT_DECLARE, SPECIALIZED_KNOWLEDGE}
 use Rattle.doc_model.specs.Knowledges.{cell_knowledge}
 use Rattle.doc_model.specs.declared.element.Object.{Object}
 use Rattle.doc_model.specs.declared.element.Content.{Content}
@@ -41,8 +42,8 @@ size_if_any size = if size == 0 then [] else compact size
 -- 05, blob declaration: extended GUID object, extended GUID blob, compact partition, compact size or nothing, compact references,
 -- compact cell references. The reference counts are the lengths of the lists.
 abbrev pub declaration_kind : Content → ℕ
-declaration_kind (Inline bytes) = 0x18
-declaration_kind (Apart blob) = 0x05
+declaration_kind (Inline bytes) = OBJECT_GROUP_OBJECT_DECLARE
+declaration_kind (Apart blob) = OBJECT_GROUP_OBJECT_BLOB_DATA_DECLARATION
 
 abbrev pub declaration_fields : Object → Content → List ℕ
 declaration_fields o (Inline bytes) = exguid o.id ++ compact o.partition ++ compact o.size ++ compact (length o.references) ++ compact (length o.cells)
@@ -54,8 +55,8 @@ declaration_bytes o = simple_object (declaration_kind o.content) (declaration_fi
 -- 16, object data: array of extended GUIDs, array of cell ids, binary item.
 -- 1C, blob reference: array of extended GUIDs, array of cell ids, extended GUID blob.
 abbrev pub data_kind : Content → ℕ
-data_kind (Inline bytes) = 0x16
-data_kind (Apart blob) = 0x1C
+data_kind (Inline bytes) = OBJECT_GROUP_OBJECT_DATA
+data_kind (Apart blob) = OBJECT_GROUP_OBJECT_DATA_BLOB_REFERENCE
 
 abbrev pub data_fields : Object → Content → List ℕ
 data_fields o (Inline bytes) = array exguid o.references ++ array cell_id o.cells ++ item bytes
@@ -66,16 +67,16 @@ data_bytes o = simple_object (data_kind o.content) (data_fields o o.content)
 
 -- 1D, declarations, compound: no fields. 1E, group data, compound: no fields.
 unfoldable pub declarations_bytes : List Object → List ℕ
-declarations_bytes objects = compound_object 0x1D [] (flat_map declaration_bytes objects)
+declarations_bytes objects = compound_object OBJECT_GROUP_DECLARATIONS [] (flat_map declaration_bytes objects)
 
 unfoldable pub datas_bytes : List Object → List ℕ
-datas_bytes objects = compound_object 0x1E [] (flat_map data_bytes objects)
+datas_bytes objects = compound_object OBJECT_GROUP_DATA [] (flat_map data_bytes objects)
 
 -- ---- 10, object data blob (2.2.1.12.8)
 
 -- 02, blob content: binary item
 unfoldable pub blob_bytes : List ℕ → List ℕ
-blob_bytes bytes = simple_object 0x02 (item bytes)
+blob_bytes bytes = simple_object OBJECT_DATA_BLOB (item bytes)
 
 -- ---- elements
 
@@ -98,7 +99,7 @@ body_bytes (Blob bytes) = blob_bytes bytes
 
 -- 01, data element, compound: extended GUID id, serial number, compact kind
 unfoldable pub element_bytes : Element → Serial → List ℕ
-element_bytes e s = compound_object 0x01 (exguid e.id ++ serial s ++ compact (kind_number e.body)) (body_bytes e.body)
+element_bytes e s = compound_object DATA_ELEMENT (exguid e.id ++ serial s ++ compact (kind_number e.body)) (body_bytes e.body)
 
 -- an element with its number, of a document's GUID
 unfoldable pub numbered_bytes : Guid → NumberedElement → List ℕ
@@ -106,22 +107,22 @@ numbered_bytes guid n = element_bytes n.element (Number guid n.serial)
 
 -- 15, data element package, compound: the byte 0
 unfoldable pub package_bytes : Guid → List NumberedElement → List ℕ
-package_bytes guid elements = compound_object 0x15 (0 ∷ []) (flat_map (numbered_bytes guid) elements)
+package_bytes guid elements = compound_object DATA_ELEMENT_PACKAGE (0 ∷ []) (flat_map (numbered_bytes guid) elements)
 
 -- ---- knowledge (2.2.1.13)
 
 -- 0F, cell knowledge range: 16 bytes GUID, compact from, compact to
 unfoldable pub range_bytes : Range → List ℕ
-range_bytes r = simple_object 0x0F (guid_spelling r.guid ++ compact r.from ++ compact r.to)
+range_bytes r = simple_object CELL_KNOWLEDGE_RANGE (guid_spelling r.guid ++ compact r.from ++ compact r.to)
 
 -- 14, cell knowledge, compound: no fields
 unfoldable pub ranges_bytes : List Range → List ℕ
-ranges_bytes ranges = compound_object 0x14 [] (flat_map range_bytes ranges)
+ranges_bytes ranges = compound_object CELL_KNOWLEDGE [] (flat_map range_bytes ranges)
 
 -- 44, specialized knowledge, compound: the GUID of cell knowledge
 unfoldable pub cell_knowledge_bytes : List Range → List ℕ
-cell_knowledge_bytes ranges = compound_object 0x44 (guid_bytes cell_knowledge) (ranges_bytes ranges)
+cell_knowledge_bytes ranges = compound_object SPECIALIZED_KNOWLEDGE (guid_bytes cell_knowledge) (ranges_bytes ranges)
 
 -- 10, knowledge, compound: no fields. The two objects in it are there even where there is no range.
 unfoldable pub knowledge_bytes : Knowledge → List ℕ
-knowledge_bytes k = compound_object 0x10 [] (cell_knowledge_bytes k.ranges)
+knowledge_bytes k = compound_object KNOWLEDGE [] (cell_knowledge_bytes k.ranges)

@@ -7,6 +7,7 @@ use Rattle.compact_values.specs.Ids.{exguid}
 use Rattle.compact_values.specs.declared.ids.ExGuid.{ExGuid}
 use Rattle.compact_values.specs.declared.ids.Serial.TheVariants.{Null}
 use Rattle.stream_objects.specs.Written.{simple_object, compound_object}
+use Rattle.stream_objects.specs.declared.object_types.TheConstants.{ALLOCATE_EXTENDED_GUID_RANGE_REQUEST, DATA_ELEMENT_PACKAGE, PUT_CHANGES_REQUEST, QUERY_CHANGES_REQUEST, REQUEST, SUB_REQUEST}
 use Rattle.doc_model.specs.WrittenElements.{element_bytes, knowledge_bytes}
 use Rattle.doc_model.specs.declared.element.Element.{Element}
 use Rattle.doc_model.specs.declared.request.CellRequest.{CellRequest}
@@ -24,15 +25,15 @@ IsKindOf Unknown kind = (kind ≢ 1) × (kind ≢ 2) × (kind ≢ 5) × (kind �
 
 -- 51, query: the byte 0
 unfoldable pub query_bytes : List ℕ
-query_bytes = simple_object 0x51 (0 ∷ [])
+query_bytes = simple_object QUERY_CHANGES_REQUEST (0 ∷ [])
 
 -- 5A, put: extended GUID index, extended GUID expected, the flag byte
 unfoldable pub put_bytes : ExGuid → ExGuid → ℕ → List ℕ
-put_bytes index expected flags = simple_object 0x5A (exguid index ++ exguid expected ++ flags ∷ [])
+put_bytes index expected flags = simple_object PUT_CHANGES_REQUEST (exguid index ++ exguid expected ++ flags ∷ [])
 
 -- 80, allocate request: compact count, the byte 0
 unfoldable pub allocate_bytes : ℕ → List ℕ
-allocate_bytes count = simple_object 0x80 (compact count ++ 0 ∷ [])
+allocate_bytes count = simple_object ALLOCATE_EXTENDED_GUID_RANGE_REQUEST (compact count ++ 0 ∷ [])
 
 -- what a sub-request holds
 unfoldable pub held_bytes : WireKind → List ℕ
@@ -44,7 +45,7 @@ held_bytes Unknown = []
 
 -- 42, sub-request, compound: compact id, compact kind, the priority 0
 unfoldable pub sub_bytes : WireSub → List ℕ
-sub_bytes s = compound_object 0x42 (compact s.id ++ compact s.kind ++ compact 0) (held_bytes s.what)
+sub_bytes s = compound_object SUB_REQUEST (compact s.id ++ compact s.kind ++ compact 0) (held_bytes s.what)
 
 -- an element as a client sends it, with a null serial number
 abbrev pub sent_bytes : Element → List ℕ
@@ -52,7 +53,7 @@ sent_bytes e = element_bytes e Null
 
 -- 15, data element package, compound: the byte 0
 unfoldable pub sent_package_bytes : List Element → List ℕ
-sent_package_bytes elements = compound_object 0x15 (0 ∷ []) (flat_map sent_bytes elements)
+sent_package_bytes elements = compound_object DATA_ELEMENT_PACKAGE (0 ∷ []) (flat_map sent_bytes elements)
 
 -- version 12, least version 11, and the signature of requests
 abbrev pub request_front : List ℕ
@@ -60,4 +61,4 @@ request_front = 0x0C ∷ 0x00 ∷ 0x0B ∷ 0x00 ∷ 0x9C ∷ 0xCF ∷ 0x29 ∷ 0
 
 -- the front, and 40, request, compound: no fields; it holds the sub-requests in order and the package behind them
 unfoldable pub request_bytes : CellRequest → List ℕ
-request_bytes r = request_front ++ compound_object 0x40 [] (flat_map sub_bytes r.subs ++ sent_package_bytes r.elements)
+request_bytes r = request_front ++ compound_object REQUEST [] (flat_map sub_bytes r.subs ++ sent_package_bytes r.elements)

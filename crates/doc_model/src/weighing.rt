@@ -13,6 +13,7 @@ use crate::element::{
 };
 use crate::sizes::{data_size, declaration_size, exguid_size, item_size, started_size};
 use compact_values::{ExGuid, Guid};
+use stream_objects::object_types;
 use wire_kinds::{row_size, size_of_rows};
 
 // The children of a storage index.
@@ -21,9 +22,9 @@ fn index_weight(manifests: &[ManifestMap], cells: &[CellMap], revisions: &[Revis
     ensures length { result ≡ length (flat_map (row_bytes manifest_mapping) manifests.now ++ flat_map (row_bytes cell_mapping) cells.now ++ flat_map (row_bytes revision_mapping) revisions.now) }
     ensures few { result ≤ 2 ^ 93 }
 {
-    let manifests = size_of_rows(0x11, manifests) as u128;
-    let cells = size_of_rows(0x0E, cells) as u128;
-    let revisions = size_of_rows(0x0D, revisions) as u128;
+    let manifests = size_of_rows(object_types::STORAGE_INDEX_MANIFEST_MAPPING, manifests) as u128;
+    let cells = size_of_rows(object_types::STORAGE_INDEX_CELL_MAPPING, cells) as u128;
+    let revisions = size_of_rows(object_types::STORAGE_INDEX_REVISION_MAPPING, revisions) as u128;
     manifests + cells + revisions
 }
 
@@ -86,7 +87,8 @@ fn storage_weight(schema: &Guid, roots: &[Root]) -> u128
     ensures length { result ≡ length (row_bytes schema_guid schema.now ++ flat_map (row_bytes manifest_root) roots.now) }
     ensures few { result ≤ 2 ^ 93 }
 {
-    row_size(0x0C, schema) as u128 + size_of_rows(0x07, roots) as u128
+    row_size(object_types::STORAGE_MANIFEST_SCHEMA_GUID, schema) as u128
+        + size_of_rows(object_types::STORAGE_MANIFEST_ROOT_DECLARE, roots) as u128
 }
 
 // The child of a cell manifest.
@@ -94,7 +96,7 @@ fn current_weight(current: &ExGuid) -> u128
     ensures length { result ≡ length (row_bytes current_revision current.now) }
     ensures few { result ≤ 2 ^ 93 }
 {
-    row_size(0x0B, current) as u128
+    row_size(object_types::CELL_MANIFEST_CURRENT_REVISION, current) as u128
 }
 
 // The children of a revision manifest.
@@ -103,9 +105,12 @@ fn revision_weight(ids: &(ExGuid, ExGuid), roots: &[RevisionRoot], groups: &[ExG
     ensures length { result ≡ length (row_bytes revision_manifest ids.now ++ flat_map (row_bytes revision_root) roots.now ++ flat_map (row_bytes group_reference) groups.now) }
     ensures few { result ≤ 2 ^ 93 }
 {
-    let ids = row_size(0x1A, ids) as u128;
-    let roots = size_of_rows(0x0A, roots) as u128;
-    let groups = size_of_rows(0x19, groups) as u128;
+    let ids = row_size(object_types::REVISION_MANIFEST, ids) as u128;
+    let roots = size_of_rows(object_types::REVISION_MANIFEST_ROOT_DECLARE, roots) as u128;
+    let groups = size_of_rows(
+        object_types::REVISION_MANIFEST_OBJECT_GROUP_REFERENCES,
+        groups,
+    ) as u128;
     ids + roots + groups
 }
 

@@ -5,6 +5,7 @@ use Rattle.sha2.specs.Sha256.{sha256}
 use Rattle.compact_values.specs.declared.guid.Guid.{Guid}
 use Rattle.compact_values.specs.declared.ids.ExGuid.{ExGuid}
 use Rattle.compact_values.specs.declared.ids.ExGuid.TheVariants.{Id}
+use Rattle.stream_objects.specs.declared.object_types.TheConstants.{INTERMEDIATE_NODE, ROOT_NODE}
 use Rattle.doc_model.specs.declared.element.Object.{Object}
 use Rattle.doc_model.specs.declared.element.Content.TheVariants.{Inline}
 use Rattle.doc_model.specs.Nodes.{node_bytes}
@@ -58,7 +59,7 @@ levels_within (suc count) guid value level =
     if nat_le (length level) 64 then record { all = level; top = level }
     else
     let next = value + length level in
-    let above = levels_within count guid next (numbered (node 0x1F guid) next (pieces 64 level)) in
+    let above = levels_within count guid next (numbered (node INTERMEDIATE_NODE guid) next (pieces 64 level)) in
     record { all = level ++ above.all; top = above.top }
 
 -- the leaves of a file: its bytes in pieces of 65,536, and none of an empty file
@@ -71,7 +72,7 @@ levels bytes guid value = let level = leaves bytes guid value in levels_within (
 -- The objects of a file, the first with this value: the root node (20), which refers to the top level, the leaves in order, and the
 -- intermediate nodes level by level.
 abbrev pub file_parts : List ℕ → Guid → ℕ → List Part
-file_parts bytes guid value = let below = levels bytes guid (value + 1) in node 0x20 guid value below.top ∷ below.all
+file_parts bytes guid value = let below = levels bytes guid (value + 1) in node ROOT_NODE guid value below.top ∷ below.all
 
 abbrev pub file_objects : List ℕ → Guid → ℕ → List Object
 file_objects bytes guid value = objects_of (file_parts bytes guid value)

@@ -11,12 +11,13 @@ ghost use Rattle.doc_model.specs.Nodes.{node_bytes};
 ghost use Rattle.file_nodes.specs.Pieces.{pieces};
 ghost use Rattle.file_nodes.specs.Chunks.{id_of};
 ghost use Rattle.file_nodes.specs.Chunking.{inline, node, numbered, objects_of, ids_of, leaves, levels, file_objects};
+ghost use Rattle.stream_objects.specs.declared.object_types.TheConstants.{DATA_SIZE, INTERMEDIATE_NODE, SIGNATURE};
 
 use compact_values::{ExGuid, Guid, Ids, NoMemory, Octets, Seq, append_low_bytes, write_item};
 use doc_model::{Content, Object, Objects};
 use sha2::{Digest, Sha256};
 use std::alloc::Global;
-use stream_objects::{begin, finish};
+use stream_objects::{begin, finish, object_types};
 
 /// How many bytes a leaf has, unless it is the last.
 const LEAF_BYTES: usize = 65_536;
@@ -27,29 +28,23 @@ const REFERENCES: usize = 64;
 /// How many bytes are below an intermediate node over leaves, unless it is the last.
 const NODE_BYTES: usize = 4_194_304;
 
-/// The object type of an intermediate node.
-const INTERMEDIATE: u16 = 0x1F;
-
-/// The object type of a root node.
-const ROOT: u16 = 0x20;
-
 /// Adds a signature: the hash of these bytes.
 fn append_signature(alloc: Global, out: &mut Octets, file: &[u8]) -> Result<(), NoMemory>
-    ensures { OnOk result (out.new ≡ out.old ++ simple_object 0x21 (item (sha256 file.now))) }
+    ensures { OnOk result (out.new ≡ out.old ++ simple_object SIGNATURE (item (sha256 file.now))) }
 {
     let hash = Sha256::digest(file);
     let mut fields = Seq::new(alloc);
     write_item(&mut fields, &hash)?;
-    begin(out, 0x21, false, fields.as_slice())
+    begin(out, object_types::SIGNATURE, false, fields.as_slice())
 }
 
 /// Adds a data size.
 fn append_size(alloc: Global, out: &mut Octets, size: u64) -> Result<(), NoMemory>
-    ensures { OnOk result (out.new ≡ out.old ++ simple_object 0x22 (little_endian 8 size)) }
+    ensures { OnOk result (out.new ≡ out.old ++ simple_object DATA_SIZE (little_endian 8 size)) }
 {
     let mut fields = Seq::new(alloc);
     append_low_bytes(&mut fields, size, 8)?;
-    begin(out, 0x22, false, fields.as_slice())
+    begin(out, object_types::DATA_SIZE, false, fields.as_slice())
 }
 
 /// The bytes of a node over these bytes of the file.
@@ -157,14 +152,21 @@ fn push_nodes(
     requires short { length file.now ≤ 16777216 }
     requires leaf_room { first_leaf + length file.now < 2 ^ 32 }
     requires room { first + length file.now < 2 ^ 32 }
-    ensures { OnOk result (objects.new ≡ objects.old ++ objects_of (numbered (node 0x1F guid) first (pieces 64 (leaves file.now guid first_leaf)))) }
+    ensures { OnOk result (objects.new ≡ objects.old ++ objects_of (numbered (node INTERMEDIATE_NODE guid) first (pieces 64 (leaves file.now guid first_leaf)))) }
 {
     let mut value = first;
     let mut leaf = first_leaf;
     for bytes in file.chunks(NODE_BYTES) {
         let count = leaf_count(bytes);
         let references = consecutive_ids(alloc, guid, leaf, count)?;
-        objects.push(node(alloc, INTERMEDIATE, guid, value, references, bytes)?)?;
+        objects.push(node(
+            alloc,
+            object_types::INTERMEDIATE_NODE,
+            guid,
+            value,
+            references,
+            bytes,
+        )?)?;
         value += 1;
         leaf += count;
     }
@@ -220,7 +222,14 @@ pub fn file_objects(alloc: Global, file: &[u8], guid: Guid, first: u32) -> Resul
 {
     let references = top_ids(alloc, file, guid, first + 1)?;
     let mut objects = Seq::new(alloc);
-    objects.push(node(alloc, ROOT, guid, first, references, file)?)?;
+    objects.push(node(
+        alloc,
+        object_types::ROOT_NODE,
+        guid,
+        first,
+        references,
+        file,
+    )?)?;
     push_levels(alloc, &mut objects, file, guid, first + 1)?;
     Ok(objects)
 }

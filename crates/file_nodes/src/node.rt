@@ -6,7 +6,9 @@ ghost use Rattle.doc_model.specs.Nodes.{only_fields, signature_said, size_said, 
 
 use compact_values::{NoMemory, take_item, take_long};
 use std::alloc::Global;
-use stream_objects::{Tree, TreeFault, compound_fields, only_child, read_tree, simple_fields};
+use stream_objects::{
+    Tree, TreeFault, compound_fields, object_types, only_child, read_tree, simple_fields,
+};
 
 // The fields of the only child of a type, where it is a simple object.
 fn only_fields<'a>(bytes: &'a [u8], tree: &Tree, kind: u16) -> Option<&'a [u8]>
@@ -19,7 +21,7 @@ fn only_fields<'a>(bytes: &'a [u8], tree: &Tree, kind: u16) -> Option<&'a [u8]>
 fn has_signature(bytes: &[u8], tree: &Tree) -> bool
     ensures { result ≡ is_some (signature_said bytes.now tree.now) }
 {
-    let Some(fields) = only_fields(bytes, tree, 0x21) else {
+    let Some(fields) = only_fields(bytes, tree, object_types::SIGNATURE) else {
         return false;
     };
     match take_item(fields) {
@@ -32,7 +34,7 @@ fn has_signature(bytes: &[u8], tree: &Tree) -> bool
 fn size_said(bytes: &[u8], tree: &Tree) -> Option<u64>
     ensures { result ≡ size_said bytes.now tree.now }
 {
-    let fields = only_fields(bytes, tree, 0x22)?;
+    let fields = only_fields(bytes, tree, object_types::DATA_SIZE)?;
     let (size, rest) = take_long(fields)?;
     if rest.is_empty() { Some(size) } else { None }
 }
@@ -41,7 +43,7 @@ fn size_said(bytes: &[u8], tree: &Tree) -> Option<u64>
 fn is_node(bytes: &[u8], tree: &Tree) -> bool
     ensures { result ≡ is_node bytes.now tree.now }
 {
-    (tree.kind == 0x1F || tree.kind == 0x20)
+    (tree.kind == object_types::INTERMEDIATE_NODE || tree.kind == object_types::ROOT_NODE)
         && match compound_fields(bytes, tree) {
             Some([]) => true,
             _ => false,

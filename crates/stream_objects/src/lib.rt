@@ -1,5 +1,6 @@
 //! Stream objects (MS-FSSHTTPB 2.2.1.5): the headers that open and close an object, and trees of objects.
 //!
+//! - `object_types`: the types of objects, by name
 //! - `limits`: how large a tree may be
 //! - `headers`: start and end headers, written and read
 //! - `tree`: an object with its children, as it was read
@@ -14,6 +15,7 @@ mod fault;
 mod headers;
 pub mod laws;
 mod limits;
+pub mod object_types;
 mod objects;
 mod reading;
 mod tree;

@@ -7,6 +7,7 @@ use Rattle.stream_objects.specs.declared.tree.Tree.TheViews.{out-Tree}
 use Rattle.stream_objects.specs.Objects.{is_kind, start_of, children_of, fields_of}
 use Rattle.stream_objects.specs.ObjectFields.{simple_fields, single}
 use Rattle.stream_objects.specs.Gathering.{and_then, gather}
+use Rattle.stream_objects.specs.declared.object_types.TheConstants.{ALLOCATE_EXTENDED_GUID_RANGE_REQUEST, DATA_ELEMENT_PACKAGE, PUT_CHANGES_REQUEST, QUERY_CHANGES_REQUEST, REQUEST, SUB_REQUEST}
 use Rattle.doc_model.specs.Requests.{first_knowledge, puts_in}
 use Rattle.doc_model.specs.RequestParts.{sub_row}
 use Rattle.doc_model.specs.declared.knowledge.Knowledge.{Knowledge}
@@ -34,7 +35,7 @@ pull_of (Ok knowledge) = Ok (Pull knowledge)
 pull_of (Err place) = Err place
 
 unfoldable pub pull_at : List ℕ → Tree → Result WireKind ℕ
-pull_at input t = if is_some (single (children_of 0x51 t)) then pull_of (known_at input (first_knowledge t)) else Err (start_of t)
+pull_at input t = if is_some (single (children_of QUERY_CHANGES_REQUEST t)) then pull_of (known_at input (first_knowledge t)) else Err (start_of t)
 
 -- ---- a put
 
@@ -54,7 +55,7 @@ put_in input m place (Some c) = put_fields_at input m c
 put_in input m place None = Err place
 
 unfoldable pub put_at : List ℕ → ℕ → Tree → Result WireKind ℕ
-put_at input m t = put_in input m (start_of t) (single (children_of 0x5A t))
+put_at input m t = put_in input m (start_of t) (single (children_of PUT_CHANGES_REQUEST t))
 
 -- ---- a draw
 
@@ -73,7 +74,7 @@ draw_in input place (Some c) = allocate_at input c
 draw_in input place None = Err place
 
 unfoldable pub draw_at : List ℕ → Tree → Result WireKind ℕ
-draw_at input t = draw_in input (start_of t) (single (children_of 0x80 t))
+draw_at input t = draw_in input (start_of t) (single (children_of ALLOCATE_EXTENDED_GUID_RANGE_REQUEST t))
 
 -- ---- a sub-request
 
@@ -104,7 +105,7 @@ and_sub subs (Err place) = Err place
 
 -- a child of a request, behind these sub-requests
 unfoldable pub child_at : List ℕ → List WireSub → Tree → Result (List WireSub) ℕ
-child_at input subs t = if is_kind 0x42 t then and_sub subs (sub_at input (length subs) (puts_in subs) t) else Ok subs
+child_at input subs t = if is_kind SUB_REQUEST t then and_sub subs (sub_at input (length subs) (puts_in subs) t) else Ok subs
 
 -- ---- a request
 
@@ -115,7 +116,7 @@ behind_first t None = None
 -- what stands before the first package, the package, and what stands behind it
 abbrev pub split : List Tree → Option (List Tree × (Tree × List Tree))
 split [] = None
-split (t ∷ ts) = if is_kind 0x15 t then Some ([], (t, ts)) else behind_first t (split ts)
+split (t ∷ ts) = if is_kind DATA_ELEMENT_PACKAGE t then Some ([], (t, ts)) else behind_first t (split ts)
 
 abbrev pub parts_at : List ℕ → List Tree → Tree → List Tree → Result CellRequest ℕ
 parts_at input before package_object behind =
@@ -129,5 +130,5 @@ split_at input place None = Err place
 
 unfoldable pub request_at : List ℕ → Tree → Result CellRequest ℕ
 request_at input t =
-    if is_kind 0x40 t && (out-Tree t).compound && is_some (single (children_of 0x15 t)) then split_at input (start_of t) (split (out-Tree t).children)
+    if is_kind REQUEST t && (out-Tree t).compound && is_some (single (children_of DATA_ELEMENT_PACKAGE t)) then split_at input (start_of t) (split (out-Tree t).children)
     else Err (start_of t)

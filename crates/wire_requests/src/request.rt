@@ -13,14 +13,14 @@ use compact_values::Seq;
 use data_elements::{WireFault, read_package};
 use doc_model::{CellRequest, Elements};
 use std::alloc::Global;
-use stream_objects::{Tree, TreeFault, only_child, read_tree};
+use stream_objects::{Tree, TreeFault, object_types, only_child, read_tree};
 
 // The objects before the package, the package, and the objects behind it.
 fn split(trees: &[Tree]) -> Option<(&[Tree], (&Tree, &[Tree]))>
     ensures { option_map (λ x. (x.0.now, (x.1.0.now, x.1.1.now))) result ≡ split trees.now }
 {
     for at in 0..trees.len() {
-        if trees[at].kind == 0x15 {
+        if trees[at].kind == object_types::DATA_ELEMENT_PACKAGE {
             return Some((&trees[..at], (&trees[at], &trees[at + 1..])));
         }
     }
@@ -67,7 +67,10 @@ fn read_parts(
 fn read_form(alloc: Global, bytes: &[u8], tree: &Tree) -> Result<CellRequest, WireFault>
     ensures { GivesRequest result (request_at bytes.now tree.now) }
 {
-    if tree.kind != 0x40 || !tree.compound || only_child(tree, 0x15).is_none() {
+    if tree.kind != object_types::REQUEST
+        || !tree.compound
+        || only_child(tree, object_types::DATA_ELEMENT_PACKAGE).is_none()
+    {
         return Err(fault(tree));
     }
     match split(tree.children.as_slice()) {

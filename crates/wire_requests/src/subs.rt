@@ -14,7 +14,7 @@ use data_elements::{WireFault, read_knowledge};
 use doc_model::limits::{MOST_PUTS, MOST_SUB_REQUESTS};
 use doc_model::{Knowledge, WireKind, WireSub, WireSubs};
 use std::alloc::Global;
-use stream_objects::{Tree, only_child};
+use stream_objects::{Tree, object_types, only_child};
 
 // The knowledge that an object says.
 fn read_known(alloc: Global, bytes: &[u8], tree: &Tree) -> Result<Knowledge, WireFault>
@@ -31,10 +31,10 @@ fn read_known(alloc: Global, bytes: &[u8], tree: &Tree) -> Result<Knowledge, Wir
 fn read_pull(alloc: Global, bytes: &[u8], tree: &Tree) -> Result<WireKind, WireFault>
     ensures { Gives result (pull_at bytes.now tree.now) }
 {
-    if only_child(tree, 0x51).is_none() {
+    if only_child(tree, object_types::QUERY_CHANGES_REQUEST).is_none() {
         return Err(fault(tree));
     }
-    match first_below(tree, 0x10) {
+    match first_below(tree, object_types::KNOWLEDGE) {
         Some(found) => {
             let knowledge = read_known(alloc, bytes, found)?;
             Ok(WireKind::Pull { knowledge })
@@ -71,7 +71,7 @@ fn read_put_fields(bytes: &[u8], puts: usize, tree: &Tree) -> Result<WireKind, W
 fn read_put(bytes: &[u8], puts: usize, tree: &Tree) -> Result<WireKind, WireFault>
     ensures { Gives result (put_at bytes.now puts tree.now) }
 {
-    match only_child(tree, 0x5A) {
+    match only_child(tree, object_types::PUT_CHANGES_REQUEST) {
         Some(child) => read_put_fields(bytes, puts, child),
         None => Err(fault(tree)),
     }
@@ -92,7 +92,7 @@ fn read_allocate(bytes: &[u8], tree: &Tree) -> Result<WireKind, WireFault>
 fn read_draw(bytes: &[u8], tree: &Tree) -> Result<WireKind, WireFault>
     ensures { Gives result (draw_at bytes.now tree.now) }
 {
-    match only_child(tree, 0x80) {
+    match only_child(tree, object_types::ALLOCATE_EXTENDED_GUID_RANGE_REQUEST) {
         Some(child) => read_allocate(bytes, child),
         None => Err(fault(tree)),
     }
@@ -172,7 +172,7 @@ fn read_child(
 ) -> Result<(), WireFault>
     ensures { GivesTo result subs.new (child_at bytes.now subs.old tree.now) }
 {
-    if tree.kind != 0x42 {
+    if tree.kind != object_types::SUB_REQUEST {
         return Ok(());
     }
     let puts = puts_in(subs.as_slice());

@@ -4,12 +4,13 @@ ghost use Rattle.std.specs.List.{flat_map};
 ghost use Rattle.compact_values.specs.Compact.{compact};
 ghost use Rattle.stream_objects.specs.Written.{started};
 ghost use Rattle.doc_model.specs.WrittenRequests.{query_bytes, put_bytes, allocate_bytes, held_bytes, sub_bytes, sent_bytes, sent_package_bytes, request_front, request_bytes};
+ghost use Rattle.stream_objects.specs.declared.object_types.TheConstants.{SUB_REQUEST};
 
 use compact_values::{ExGuid, NoMemory, Octets, Serial, write_compact, write_exguid};
 use data_elements::{write_element, write_knowledge};
 use doc_model::{CellRequest, Element, WireKind, WireSub, compact_size, exguid_size};
 use std::alloc::Global;
-use stream_objects::{begin, finish, start};
+use stream_objects::{begin, finish, object_types, start};
 
 /// Version 12, least version 11, and the signature of requests.
 const FRONT: [u8; 12] = [
@@ -22,7 +23,7 @@ fn write_put(out: &mut Octets, index: &ExGuid, expected: &ExGuid, flags: u8) -> 
     ensures { OnOk result (out.new ≡ out.old ++ put_bytes index.now expected.now flags) }
 {
     let size = exguid_size(index) + exguid_size(expected) + 1;
-    start(out, 0x5A, false, size)?;
+    start(out, object_types::PUT_CHANGES_REQUEST, false, size)?;
     write_exguid(out, index)?;
     write_exguid(out, expected)?;
     out.push(flags)
@@ -34,7 +35,12 @@ fn write_allocate(out: &mut Octets, count: u64) -> Result<(), NoMemory>
     ensures { OnOk result (out.new ≡ out.old ++ allocate_bytes count) }
 {
     let size = compact_size(count) + 1;
-    start(out, 0x80, false, size)?;
+    start(
+        out,
+        object_types::ALLOCATE_EXTENDED_GUID_RANGE_REQUEST,
+        false,
+        size,
+    )?;
     write_compact(out, count)?;
     out.push(0)
 }
@@ -44,7 +50,7 @@ fn write_allocate(out: &mut Octets, count: u64) -> Result<(), NoMemory>
 fn write_query(out: &mut Octets) -> Result<(), NoMemory>
     ensures { OnOk result (out.new ≡ out.old ++ query_bytes) }
 {
-    begin(out, 0x51, false, &[0])
+    begin(out, object_types::QUERY_CHANGES_REQUEST, false, &[0])
 }
 
 // What a sub-request holds.
@@ -70,10 +76,10 @@ fn write_held(out: &mut Octets, what: &WireKind) -> Result<(), NoMemory>
 // The start of a sub-request and its fields.
 #[tactic(auto, unfolding(stream_objects::specs::Written::started))]
 fn write_head(out: &mut Octets, sub: &WireSub) -> Result<(), NoMemory>
-    ensures { OnOk result (out.new ≡ out.old ++ started 0x42 true (compact sub.now.id ++ compact sub.now.kind ++ compact 0)) }
+    ensures { OnOk result (out.new ≡ out.old ++ started SUB_REQUEST true (compact sub.now.id ++ compact sub.now.kind ++ compact 0)) }
 {
     let size = compact_size(sub.id) + compact_size(sub.kind) + compact_size(0);
-    start(out, 0x42, true, size)?;
+    start(out, object_types::SUB_REQUEST, true, size)?;
     write_compact(out, sub.id)?;
     write_compact(out, sub.kind)?;
     write_compact(out, 0)
@@ -86,7 +92,7 @@ fn write_sub(out: &mut Octets, sub: &WireSub) -> Result<(), NoMemory>
 {
     write_head(out, sub)?;
     write_held(out, &sub.what)?;
-    finish(out, 0x42)
+    finish(out, object_types::SUB_REQUEST)
 }
 
 // The sub-requests, in order.
@@ -114,9 +120,9 @@ fn write_elements(out: &mut Octets, elements: &[Element]) -> Result<(), NoMemory
 fn write_package(out: &mut Octets, elements: &[Element]) -> Result<(), NoMemory>
     ensures { OnOk result (out.new ≡ out.old ++ sent_package_bytes elements.now) }
 {
-    begin(out, 0x15, true, &[0])?;
+    begin(out, object_types::DATA_ELEMENT_PACKAGE, true, &[0])?;
     write_elements(out, elements)?;
-    finish(out, 0x15)
+    finish(out, object_types::DATA_ELEMENT_PACKAGE)
 }
 
 /// Writes a request as clients send it (MS-FSSHTTPB 2.2.2): version 12 and least version 11, the sub-requests with
@@ -130,9 +136,9 @@ pub fn write_cell_request(alloc: Global, request: &CellRequest) -> Result<Octets
 {
     let mut out = Octets::new(alloc);
     out.extend_from_slice(&FRONT)?;
-    begin(&mut out, 0x40, true, &[])?;
+    begin(&mut out, object_types::REQUEST, true, &[])?;
     write_subs(&mut out, request.subs.as_slice())?;
     write_package(&mut out, request.elements.as_slice())?;
-    finish(&mut out, 0x40)?;
+    finish(&mut out, object_types::REQUEST)?;
     Ok(out)
 }

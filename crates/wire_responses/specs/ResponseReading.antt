@@ -9,6 +9,7 @@ use Rattle.stream_objects.specs.declared.tree.Tree.TheViews.{out-Tree}
 use Rattle.stream_objects.specs.Objects.{is_kind, start_of, children_of}
 use Rattle.stream_objects.specs.ObjectFields.{simple_fields, single}
 use Rattle.stream_objects.specs.Gathering.{and_then}
+use Rattle.stream_objects.specs.declared.object_types.TheConstants.{ALLOCATE_EXTENDED_GUID_RANGE_RESPONSE, CELL_ERROR, DATA_ELEMENT_PACKAGE, HRESULT_ERROR, KNOWLEDGE, QUERY_CHANGES_RESPONSE, READ_ACCESS_RESPONSE, RESPONSE, RESPONSE_ERROR, SUB_RESPONSE, WRITE_ACCESS_RESPONSE}
 use Rattle.doc_model.specs.KnowledgeParts.{guid_row}
 use Rattle.doc_model.specs.SeenResponses.{cell_error, hresult_error, reply_form, blank}
 use Rattle.doc_model.specs.ResponseParts.{comes_first, sub_row}
@@ -60,16 +61,16 @@ in_child place read None = Err place
 
 -- a cell error
 unfoldable pub failure_at : List ℕ → Tree → Result ℕ ℕ
-failure_at input t = if is_guid cell_error (guid_row input t) then in_child (start_of t) (number_at input) (single (children_of 0x66 t)) else Err (start_of t)
+failure_at input t = if is_guid cell_error (guid_row input t) then in_child (start_of t) (number_at input) (single (children_of CELL_ERROR t)) else Err (start_of t)
 
 -- an HRESULT of 0
 unfoldable pub success_at : List ℕ → Tree → Result (Unit {0}) ℕ
-success_at input t = if is_guid hresult_error (guid_row input t) then in_child (start_of t) (zero_at input) (single (children_of 0x52 t)) else Err (start_of t)
+success_at input t = if is_guid hresult_error (guid_row input t) then in_child (start_of t) (zero_at input) (single (children_of HRESULT_ERROR t)) else Err (start_of t)
 
 -- ---- what a sub-response holds
 
 unfoldable pub access_at : List ℕ → Tree → Result (Unit {0}) ℕ
-access_at input t = if has_no_fields input t then in_child (start_of t) (success_at input) (single (children_of 0x4D t)) else Err (start_of t)
+access_at input t = if has_no_fields input t then in_child (start_of t) (success_at input) (single (children_of RESPONSE_ERROR t)) else Err (start_of t)
 
 unfoldable pub query_row : List ℕ → Tree → Option (ExGuid × ℕ)
 query_row input t = simple_row (take_both take_exguid take_byte) input t
@@ -109,7 +110,7 @@ abbrev pub drawn_seen : ℕ → ℕ → Guid × (ℕ × ℕ) → Seen
 drawn_seen id kind x = record (blank id kind) { guid = x.0; least = x.1.0; greatest = x.1.1 }
 
 unfoldable pub failed_at : List ℕ → Tree → ℕ → ℕ → Result Seen ℕ
-failed_at input t id kind = in_child (start_of t) (λ c. and_then (failure_at input c) (λ n. Ok (failed_seen id kind n))) (single (children_of 0x4D t))
+failed_at input t id kind = in_child (start_of t) (λ c. and_then (failure_at input c) (λ n. Ok (failed_seen id kind n))) (single (children_of RESPONSE_ERROR t))
 
 -- what two children say, the one that stands first read first
 abbrev pub both_with : {A B V : Type 0} → (Tree → Result A ℕ) → (Tree → Result B ℕ) → (A → B → V) → ℕ → Bool → Option Tree → Option Tree → Result V ℕ
@@ -120,17 +121,17 @@ both_with one other make place first None d = Err place
 
 unfoldable pub answered_access_at : List ℕ → Tree → ℕ → ℕ → Result Seen ℕ
 answered_access_at input t id kind =
-    both_with (access_at input) (access_at input) (λ u v. blank id kind) (start_of t) (comes_first 0x43 0x46 (out-Tree t).children) (single (children_of 0x43 t)) (single (children_of 0x46 t))
+    both_with (access_at input) (access_at input) (λ u v. blank id kind) (start_of t) (comes_first READ_ACCESS_RESPONSE WRITE_ACCESS_RESPONSE (out-Tree t).children) (single (children_of READ_ACCESS_RESPONSE t)) (single (children_of WRITE_ACCESS_RESPONSE t))
 
 unfoldable pub pulled_at : List ℕ → Tree → ℕ → ℕ → Result Seen ℕ
 pulled_at input t id kind =
-    both_with (query_at input) (known_at input) (pulled_seen id kind) (start_of t) (comes_first 0x5F 0x10 (out-Tree t).children) (single (children_of 0x5F t)) (single (children_of 0x10 t))
+    both_with (query_at input) (known_at input) (pulled_seen id kind) (start_of t) (comes_first QUERY_CHANGES_RESPONSE KNOWLEDGE (out-Tree t).children) (single (children_of QUERY_CHANGES_RESPONSE t)) (single (children_of KNOWLEDGE t))
 
 unfoldable pub stored_at : List ℕ → Tree → ℕ → ℕ → Result Seen ℕ
-stored_at input t id kind = in_child (start_of t) (λ c. and_then (known_at input c) (λ k. Ok (stored_seen id kind k))) (single (children_of 0x10 t))
+stored_at input t id kind = in_child (start_of t) (λ c. and_then (known_at input c) (λ k. Ok (stored_seen id kind k))) (single (children_of KNOWLEDGE t))
 
 unfoldable pub drawn_at : List ℕ → Tree → ℕ → ℕ → Result Seen ℕ
-drawn_at input t id kind = in_child (start_of t) (λ c. and_then (allocate_at input c) (λ x. Ok (drawn_seen id kind x))) (single (children_of 0x81 t))
+drawn_at input t id kind = in_child (start_of t) (λ c. and_then (allocate_at input c) (λ x. Ok (drawn_seen id kind x))) (single (children_of ALLOCATE_EXTENDED_GUID_RANGE_RESPONSE t))
 
 abbrev pub reply_at : List ℕ → Tree → ℕ → ℕ → Option ReplyForm → Result Seen ℕ
 reply_at input t id kind (Some Failed) = failed_at input t id kind
@@ -160,8 +161,8 @@ and_elements r (Err place) = Err place
 -- a child, behind what was read before
 unfoldable pub child_at : List ℕ → CellResponse → Tree → Result CellResponse ℕ
 child_at input r t =
-    if is_kind 0x41 t then and_answer r (sub_at input t)
-    else if is_kind 0x15 t then and_elements r (numbered_package_at input t)
+    if is_kind SUB_RESPONSE t then and_answer r (sub_at input t)
+    else if is_kind DATA_ELEMENT_PACKAGE t then and_elements r (numbered_package_at input t)
     else Ok r
 
 abbrev pub children_at : List ℕ → List Tree → CellResponse → Result CellResponse ℕ
@@ -177,5 +178,5 @@ nothing_read = record { answers = []; elements = [] }
 
 unfoldable pub response_at : List ℕ → Tree → Result CellResponse ℕ
 response_at input t =
-    if is_kind 0x62 t && is_zero (package_row input t) && is_some (single (children_of 0x15 t)) then children_at input (out-Tree t).children nothing_read
+    if is_kind RESPONSE t && is_zero (package_row input t) && is_some (single (children_of DATA_ELEMENT_PACKAGE t)) then children_at input (out-Tree t).children nothing_read
     else Err (start_of t)

@@ -15,7 +15,7 @@ use data_elements::{ElementFault, WireFault, package_row, read_numbered};
 use doc_model::limits::MOST_ELEMENTS;
 use doc_model::{CellResponse, Numbered};
 use std::alloc::Global;
-use stream_objects::{Tree, TreeFault, only_child, read_tree};
+use stream_objects::{Tree, TreeFault, object_types, only_child, read_tree};
 
 // The elements of a package, with the values of their serial numbers.
 fn read_elements(alloc: Global, bytes: &[u8], tree: &Tree) -> Result<Numbered, ElementFault>
@@ -34,13 +34,13 @@ fn read_child(
 ) -> Result<(), ElementFault>
     ensures { GivesIn result response.new (child_at bytes.now response.old tree.now) }
 {
-    if tree.kind == 0x41 {
+    if tree.kind == object_types::SUB_RESPONSE {
         let seen = read_sub_response(alloc, bytes, tree)?;
         match response.answers.push(seen) {
             Ok(()) => Ok(()),
             Err(NoMemory) => Err(ElementFault::NoMemory),
         }
-    } else if tree.kind == 0x15 {
+    } else if tree.kind == object_types::DATA_ELEMENT_PACKAGE {
         let elements = read_elements(alloc, bytes, tree)?;
         match response.elements.append(elements) {
             Ok(()) => Ok(()),
@@ -81,7 +81,10 @@ fn has_zero_byte(bytes: &[u8], tree: &Tree) -> bool
 fn read_tree_form(alloc: Global, bytes: &[u8], tree: &Tree) -> Result<CellResponse, ElementFault>
     ensures { GivesResponse result (response_at bytes.now tree.now) }
 {
-    if tree.kind == 0x62 && has_zero_byte(bytes, tree) && only_child(tree, 0x15).is_some() {
+    if tree.kind == object_types::RESPONSE
+        && has_zero_byte(bytes, tree)
+        && only_child(tree, object_types::DATA_ELEMENT_PACKAGE).is_some()
+    {
         let mut response = CellResponse {
             answers: Seq::new(alloc),
             elements: Seq::new(alloc),

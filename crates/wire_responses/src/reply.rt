@@ -10,7 +10,7 @@ use compact_values::{ExGuid, Guid};
 use data_elements::{ElementFault, guid_row, has_no_fields, read_knowledge};
 use doc_model::Knowledge;
 use std::alloc::Global;
-use stream_objects::{Tree, only_child};
+use stream_objects::{Tree, object_types, only_child};
 
 /// The object isn't in its form.
 pub fn fault(tree: &Tree) -> ElementFault
@@ -52,7 +52,7 @@ pub fn read_failure(bytes: &[u8], tree: &Tree) -> Result<u32, ElementFault>
     if guid.number != CELL_ERROR.number {
         return Err(fault(tree));
     }
-    match only_child(tree, 0x66) {
+    match only_child(tree, object_types::CELL_ERROR) {
         Some(child) => read_number(bytes, child),
         None => Err(fault(tree)),
     }
@@ -69,7 +69,7 @@ fn check_success(bytes: &[u8], tree: &Tree) -> Result<(), ElementFault>
     if guid.number != HRESULT_ERROR.number {
         return Err(fault(tree));
     }
-    match only_child(tree, 0x52) {
+    match only_child(tree, object_types::HRESULT_ERROR) {
         Some(child) => check_zero(bytes, child),
         None => Err(fault(tree)),
     }
@@ -83,7 +83,7 @@ pub fn check_access(bytes: &[u8], tree: &Tree) -> Result<(), ElementFault>
     if !has_no_fields(bytes, tree) {
         return Err(fault(tree));
     }
-    match only_child(tree, 0x4D) {
+    match only_child(tree, object_types::RESPONSE_ERROR) {
         Some(child) => check_success(bytes, child),
         None => Err(fault(tree)),
     }

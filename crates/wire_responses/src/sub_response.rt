@@ -11,7 +11,7 @@ use compact_values::{ExGuid, Guid, Seq};
 use data_elements::ElementFault;
 use doc_model::{Knowledge, ReplyForm, Seen};
 use std::alloc::Global;
-use stream_objects::{Tree, only_child};
+use stream_objects::{Tree, object_types, only_child};
 
 // An answer without any part.
 fn blank(alloc: Global, id: u64, kind: u64) -> Seen
@@ -56,7 +56,7 @@ fn read_failed(
 ) -> Result<Seen, ElementFault>
     ensures { Gives result (failed_at bytes.now tree.now id kind) }
 {
-    let Some(child) = only_child(tree, 0x4D) else {
+    let Some(child) = only_child(tree, object_types::RESPONSE_ERROR) else {
         return Err(fault(tree));
     };
     let number = read_failure(bytes, child)?;
@@ -75,13 +75,17 @@ fn read_access(
 ) -> Result<Seen, ElementFault>
     ensures { Gives result (answered_access_at bytes.now tree.now id kind) }
 {
-    let Some(read) = only_child(tree, 0x43) else {
+    let Some(read) = only_child(tree, object_types::READ_ACCESS_RESPONSE) else {
         return Err(fault(tree));
     };
-    let Some(write) = only_child(tree, 0x46) else {
+    let Some(write) = only_child(tree, object_types::WRITE_ACCESS_RESPONSE) else {
         return Err(fault(tree));
     };
-    if comes_first(tree.children.as_slice(), 0x43, 0x46) {
+    if comes_first(
+        tree.children.as_slice(),
+        object_types::READ_ACCESS_RESPONSE,
+        object_types::WRITE_ACCESS_RESPONSE,
+    ) {
         check_access(bytes, read)?;
         check_access(bytes, write)?;
     } else {
@@ -102,14 +106,18 @@ fn read_pulled(
 ) -> Result<Seen, ElementFault>
     ensures { Gives result (pulled_at bytes.now tree.now id kind) }
 {
-    let Some(query) = only_child(tree, 0x5F) else {
+    let Some(query) = only_child(tree, object_types::QUERY_CHANGES_RESPONSE) else {
         return Err(fault(tree));
     };
-    let Some(known) = only_child(tree, 0x10) else {
+    let Some(known) = only_child(tree, object_types::KNOWLEDGE) else {
         return Err(fault(tree));
     };
     let mut seen = blank(alloc, id, kind);
-    if comes_first(tree.children.as_slice(), 0x5F, 0x10) {
+    if comes_first(
+        tree.children.as_slice(),
+        object_types::QUERY_CHANGES_RESPONSE,
+        object_types::KNOWLEDGE,
+    ) {
         seen.index = read_query(bytes, query)?;
         seen.knowledge = read_known(alloc, bytes, known)?;
     } else {
@@ -129,7 +137,7 @@ fn read_stored(
 ) -> Result<Seen, ElementFault>
     ensures { Gives result (stored_at bytes.now tree.now id kind) }
 {
-    let Some(child) = only_child(tree, 0x10) else {
+    let Some(child) = only_child(tree, object_types::KNOWLEDGE) else {
         return Err(fault(tree));
     };
     let mut seen = blank(alloc, id, kind);
@@ -147,7 +155,7 @@ fn read_drawn(
 ) -> Result<Seen, ElementFault>
     ensures { Gives result (drawn_at bytes.now tree.now id kind) }
 {
-    let Some(child) = only_child(tree, 0x81) else {
+    let Some(child) = only_child(tree, object_types::ALLOCATE_EXTENDED_GUID_RANGE_RESPONSE) else {
         return Err(fault(tree));
     };
     let (guid, (least, greatest)) = read_allocate(bytes, child)?;

@@ -11,7 +11,7 @@ use compact_values::{Guid, NoMemory, Octets, Serial, write_compact};
 use data_elements::write_element;
 use doc_model::{Answer, Answers, NumberedElement, Reply, Submitted};
 use std::alloc::Global;
-use stream_objects::{begin, finish};
+use stream_objects::{begin, finish, object_types};
 
 /// Version 12, least version 11, and the signature of responses.
 const FRONT: [u8; 12] = [
@@ -71,9 +71,9 @@ fn write_all_pulled(out: &mut Octets, answers: &[Answer]) -> Result<(), NoMemory
 fn write_package(out: &mut Octets, answers: &[Answer]) -> Result<(), NoMemory>
     ensures { OnOk result (out.new ≡ out.old ++ pulled_package answers.now) }
 {
-    begin(out, 0x15, true, &[0])?;
+    begin(out, object_types::DATA_ELEMENT_PACKAGE, true, &[0])?;
     write_all_pulled(out, answers)?;
-    finish(out, 0x15)
+    finish(out, object_types::DATA_ELEMENT_PACKAGE)
 }
 
 // A sub-response.
@@ -85,9 +85,9 @@ fn write_sub_response(alloc: Global, out: &mut Octets, answer: &Answer) -> Resul
     write_compact(&mut fields, answer.id)?;
     write_compact(&mut fields, answer.kind)?;
     fields.push(status_byte(&answer.submitted))?;
-    begin(out, 0x41, true, fields.as_slice())?;
+    begin(out, object_types::SUB_RESPONSE, true, fields.as_slice())?;
     write_reply(alloc, out, &answer.submitted)?;
-    finish(out, 0x41)
+    finish(out, object_types::SUB_RESPONSE)
 }
 
 // Every sub-response, in order.
@@ -110,10 +110,10 @@ pub fn write_cell_response(alloc: Global, answers: &Answers) -> Result<Octets, N
 {
     let mut out = with_room(alloc, answers.as_slice())?;
     out.extend_from_slice(&FRONT)?;
-    begin(&mut out, 0x62, true, &[0])?;
+    begin(&mut out, object_types::RESPONSE, true, &[0])?;
     write_package(&mut out, answers.as_slice())?;
     write_sub_responses(alloc, &mut out, answers.as_slice())?;
-    finish(&mut out, 0x62)?;
+    finish(&mut out, object_types::RESPONSE)?;
     Ok(out)
 }
 
@@ -124,8 +124,8 @@ pub fn write_cell_failure(alloc: Global, number: u32) -> Result<Octets, NoMemory
 {
     let mut out = Octets::new(alloc);
     out.extend_from_slice(&FRONT)?;
-    begin(&mut out, 0x62, true, &[1])?;
+    begin(&mut out, object_types::RESPONSE, true, &[1])?;
     write_error(&mut out, number)?;
-    finish(&mut out, 0x62)?;
+    finish(&mut out, object_types::RESPONSE)?;
     Ok(out)
 }

@@ -6,6 +6,7 @@ ghost use Rattle.compact_values.specs.GuidBytes.{guid_bytes};
 ghost use Rattle.compact_values.specs.Ids.{exguid};
 ghost use Rattle.doc_model.specs.Responses.{reply_objects, error_object, success_object, status_byte, code_number};
 ghost use Rattle.stream_objects.specs.Written.{simple_object, compound_object};
+ghost use Rattle.stream_objects.specs.declared.object_types.TheConstants.{ALLOCATE_EXTENDED_GUID_RANGE_RESPONSE, QUERY_CHANGES_RESPONSE, READ_ACCESS_RESPONSE, WRITE_ACCESS_RESPONSE};
 
 use crate::error_guids::{CELL_ERROR, HRESULT_ERROR};
 use byteorder::{ByteOrder, LittleEndian};
@@ -13,7 +14,7 @@ use compact_values::{ExGuid, Guid, NoMemory, Octets, guid_bytes, write_compact, 
 use data_elements::write_knowledge;
 use doc_model::{Code, Reply, Submitted};
 use std::alloc::Global;
-use stream_objects::{begin, finish};
+use stream_objects::{begin, finish, object_types};
 
 // The 4 bytes of a number, the least first.
 fn four_bytes(number: u32) -> [u8; 4]
@@ -28,18 +29,28 @@ fn four_bytes(number: u32) -> [u8; 4]
 pub fn write_error(out: &mut Octets, number: u32) -> Result<(), NoMemory>
     ensures { OnOk result (out.new ≡ out.old ++ error_object number) }
 {
-    begin(out, 0x4D, true, &guid_bytes(CELL_ERROR))?;
-    begin(out, 0x66, false, &four_bytes(number))?;
-    finish(out, 0x4D)
+    begin(
+        out,
+        object_types::RESPONSE_ERROR,
+        true,
+        &guid_bytes(CELL_ERROR),
+    )?;
+    begin(out, object_types::CELL_ERROR, false, &four_bytes(number))?;
+    finish(out, object_types::RESPONSE_ERROR)
 }
 
 // An HRESULT of 0.
 fn write_success(out: &mut Octets) -> Result<(), NoMemory>
     ensures { OnOk result (out.new ≡ out.old ++ success_object) }
 {
-    begin(out, 0x4D, true, &guid_bytes(HRESULT_ERROR))?;
-    begin(out, 0x52, false, &four_bytes(0))?;
-    finish(out, 0x4D)
+    begin(
+        out,
+        object_types::RESPONSE_ERROR,
+        true,
+        &guid_bytes(HRESULT_ERROR),
+    )?;
+    begin(out, object_types::HRESULT_ERROR, false, &four_bytes(0))?;
+    finish(out, object_types::RESPONSE_ERROR)
 }
 
 // An answer that there is read access, or write access.
@@ -54,20 +65,25 @@ fn write_one_access(out: &mut Octets, kind: u16) -> Result<(), NoMemory>
 
 // That there is read access, and write access.
 fn write_access(out: &mut Octets) -> Result<(), NoMemory>
-    ensures { OnOk result (out.new ≡ out.old ++ (compound_object 0x43 [] success_object ++ compound_object 0x46 [] success_object)) }
+    ensures { OnOk result (out.new ≡ out.old ++ (compound_object READ_ACCESS_RESPONSE [] success_object ++ compound_object WRITE_ACCESS_RESPONSE [] success_object)) }
 {
-    write_one_access(out, 0x43)?;
-    write_one_access(out, 0x46)
+    write_one_access(out, object_types::READ_ACCESS_RESPONSE)?;
+    write_one_access(out, object_types::WRITE_ACCESS_RESPONSE)
 }
 
 // A query answer: the index, and that the answer is whole.
 fn write_query(alloc: Global, out: &mut Octets, index: &ExGuid) -> Result<(), NoMemory>
-    ensures { OnOk result (out.new ≡ out.old ++ simple_object 0x5F (exguid index.now ++ 0 ∷ [])) }
+    ensures { OnOk result (out.new ≡ out.old ++ simple_object QUERY_CHANGES_RESPONSE (exguid index.now ++ 0 ∷ [])) }
 {
     let mut fields = Octets::new(alloc);
     write_exguid(&mut fields, index)?;
     fields.push(0)?;
-    begin(out, 0x5F, false, fields.as_slice())
+    begin(
+        out,
+        object_types::QUERY_CHANGES_RESPONSE,
+        false,
+        fields.as_slice(),
+    )
 }
 
 // An allocate answer.
@@ -78,13 +94,18 @@ fn write_drawn(
     least: u64,
     greatest: u64,
 ) -> Result<(), NoMemory>
-    ensures { OnOk result (out.new ≡ out.old ++ simple_object 0x81 (guid_bytes guid.number ++ compact least ++ compact greatest)) }
+    ensures { OnOk result (out.new ≡ out.old ++ simple_object ALLOCATE_EXTENDED_GUID_RANGE_RESPONSE (guid_bytes guid.number ++ compact least ++ compact greatest)) }
 {
     let mut fields = Octets::new(alloc);
     fields.extend_from_slice(&guid_bytes(guid))?;
     write_compact(&mut fields, least)?;
     write_compact(&mut fields, greatest)?;
-    begin(out, 0x81, false, fields.as_slice())
+    begin(
+        out,
+        object_types::ALLOCATE_EXTENDED_GUID_RANGE_RESPONSE,
+        false,
+        fields.as_slice(),
+    )
 }
 
 // The number of a code in a cell error, where a sub-request can meet it.
