@@ -9,3 +9,4 @@ pub mod Steps
 pub mod Elements
 pub mod Asking
 pub mod Sizes
+pub mod Behind

@@ -9,6 +9,7 @@
 //! - `kinds`: bytes, flags, texts and carried lock ids as fields
 //! - `steps`: what is asked, from its bytes
 //! - `elements`: the elements of an upload, from their bytes
+//! - `behind`: whether bytes begin with the elements of an upload
 //! - `valid`: whether a call may be made, and may move
 //! - `fits`, `fits_elements`: numbers in the ranges of their fields
 //! - `limits`: how long a body may be
@@ -16,6 +17,7 @@
 //! - `laws`: what holds of all bodies
 #![tactic(auto)]
 
+mod behind;
 mod elements;
 mod fault;
 mod fits;

@@ -6,10 +6,12 @@ ghost use Rattle.doc_model.specs.Sound.{Valid};
 ghost use Rattle.doc_model.specs.declared.call.Call.{Call};
 ghost use Rattle.doc_model.specs.declared.call.Put.{Put};
 ghost use Rattle.doc_model.specs.declared.call.Sub.{Sub};
+ghost use Rattle.doc_model.specs.declared.call.Sub.TheVariants as sub;
 ghost use Rattle.change_record.specs.Changes.{head_of, put_element_bytes, put_bytes, front_of, asked_bytes, kind_of, change_bytes, IsChange};
 ghost use Rattle.change_record.specs.FittingCalls.{FitsCall};
 ghost use Rattle.change_record.specs.Asking.{IsPut, IsAsked};
 
+use crate::behind::{behind, behind_elements};
 use crate::elements::only_elements;
 use crate::fault::ChangeFault;
 use crate::fits::fits_call;
@@ -17,8 +19,8 @@ use crate::kinds::{Byte, Carried, Words};
 use crate::limits::MOST_BODY;
 use crate::steps::asked_of;
 use crate::valid::{can_move, is_valid};
-use crate::write::write_change;
-use compact_values::{ExGuid, NoMemory};
+use crate::write::{write_change, write_front, write_head};
+use compact_values::{ExGuid, NoMemory, Octets};
 use doc_model::{Call, Put, Sub};
 use std::alloc::Global;
 use wire_kinds::Decode;
@@ -98,13 +100,36 @@ fn call_of(alloc: Global, bytes: &[u8]) -> Result<Option<Call>, NoMemory>
     }
 }
 
+// Whether these bytes are the body of this call, which is this upload. Its elements are compared one piece after the other, so
+// that no second body is held.
+fn is_upload(alloc: Global, bytes: &[u8], call: &Call, put: &Put) -> Result<bool, NoMemory>
+    requires { call.now.sub ≡ sub.Put put.now }
+    ensures { IfOk result (λ same. IsTrue same ↔ (bytes.now ≡ change_bytes call.now)) }
+{
+    let mut piece = Octets::new(alloc);
+    write_front(&mut piece, call)?;
+    write_head(&mut piece, put)?;
+    let Some(rest) = behind(bytes, &piece) else {
+        return Ok(false);
+    };
+    match behind_elements(&mut piece, rest, put.elements.as_slice())? {
+        Some(rest) => Ok(rest.is_empty()),
+        None => Ok(false),
+    }
+}
+
 // Whether these bytes are the call's body.
 fn is_body(alloc: Global, bytes: &[u8], call: &Call) -> Result<bool, NoMemory>
     requires { can_move call.now.sub ≡ true }
     ensures { IfOk result (λ same. IsTrue same ↔ (bytes.now ≡ change_bytes call.now)) }
 {
-    let body = write_change(alloc, call)?;
-    Ok(bytes == body.as_slice())
+    match &call.sub {
+        Sub::Put { put } => is_upload(alloc, bytes, call, put),
+        _ => {
+            let body = write_change(alloc, call)?;
+            Ok(bytes == body.as_slice())
+        }
+    }
 }
 
 // Whether these bytes are the body of a call that may be made and may move.
@@ -121,7 +146,7 @@ fn is_change(alloc: Global, bytes: &[u8], call: &Call) -> Result<bool, NoMemory>
 /// [`MOST_BODY`](crate::limits::MOST_BODY) bytes. There is at most one.
 ///
 /// `NotAChange` comes exactly where there is none, or `NoMemory` in its place. The call is written again to be compared
-/// with the bytes, so for a moment as many bytes more are held as the body has.
+/// with the bytes, of an upload one piece after the other: each object of a group, and each other element.
 pub fn read_change(alloc: Global, bytes: &[u8]) -> Result<Call, ChangeFault>
     // The bytes are the call's body, and its numbers are in their ranges.
     ensures ok { IfOk result (λ call. IsChange call bytes.now) }

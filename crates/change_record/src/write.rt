@@ -2,7 +2,8 @@
 ghost use Rattle.std.specs.Prelude.{◌≡◌, ◌++◌, true, OnOk, IfOk};
 ghost use Rattle.std.specs.List.{flat_map};
 ghost use Rattle.doc_model.specs.Histories.{can_move};
-ghost use Rattle.change_record.specs.Changes.{put_flags, put_element_bytes, put_bytes, kind_of, asked_bytes, change_bytes};
+ghost use Rattle.change_record.specs.Changes.{put_flags, put_element_bytes, head_of, put_bytes, kind_of, front_of, asked_bytes, change_bytes};
+ghost use Rattle.change_record.specs.Rows.{front, head};
 
 use crate::kinds::{Byte, Carried, write_tag, write_text};
 use crate::write_steps::{write_edit, write_lock};
@@ -41,15 +42,22 @@ fn write_elements(out: &mut Octets, elements: &[Element]) -> Result<(), NoMemory
     Ok(())
 }
 
+/// Adds what stands before the elements of an upload at the end. On want of memory a part of it is there.
+pub fn write_head(out: &mut Octets, put: &Put) -> Result<(), NoMemory>
+    ensures { OnOk result (out.new ≡ out.old ++ head.bytes (head_of put.now)) }
+{
+    let count = put.elements.len() as u64;
+    let flags = Byte::new(put_flags(put));
+    let carried = Carried::new(put.carried);
+    (put.index, (put.expected, (flags, (carried, count)))).encode(out)
+}
+
 // An upload.
 #[tactic(auto, unfolding(crate::specs::Changes::put_bytes))]
 fn write_put(out: &mut Octets, put: &Put) -> Result<(), NoMemory>
     ensures { OnOk result (out.new ≡ out.old ++ put_bytes put.now) }
 {
-    let count = put.elements.len() as u64;
-    let flags = Byte::new(put_flags(put));
-    let carried = Carried::new(put.carried);
-    (put.index, (put.expected, (flags, (carried, count)))).encode(out)?;
+    write_head(out, put)?;
     write_elements(out, put.elements.as_slice())
 }
 
@@ -82,6 +90,15 @@ fn kind_of(sub: &Sub) -> u8
     }
 }
 
+/// Adds what stands before what is asked at the end. On want of memory a part of it is there.
+pub fn write_front(out: &mut Octets, call: &Call) -> Result<(), NoMemory>
+    ensures { OnOk result (out.new ≡ out.old ++ front.bytes (front_of call.now)) }
+{
+    write_tag(out, kind_of(&call.sub))?;
+    write_compact(out, call.moment)?;
+    write_text(out, &call.user)
+}
+
 /// The body of a change, the one written form of the call. Only calls of the kinds that may move have one: an upload, a
 /// drawing of numbers, a step of the lock that isn't only a look, a step of the table of editors, a restore. The caller's
 /// number is no part of it. How long it is isn't judged: a journal takes at most [`limits::MOST_BODY`](crate::limits::MOST_BODY)
@@ -92,9 +109,7 @@ pub fn write_change(alloc: Global, call: &Call) -> Result<Octets, NoMemory>
     ensures { IfOk result (λ bytes. bytes ≡ change_bytes call.now) }
 {
     let mut out = Octets::new(alloc);
-    write_tag(&mut out, kind_of(&call.sub))?;
-    write_compact(&mut out, call.moment)?;
-    write_text(&mut out, &call.user)?;
+    write_front(&mut out, call)?;
     write_asked(&mut out, &call.sub)?;
     Ok(out)
 }
