@@ -1,0 +1,14 @@
+mod Answering
+mod Telling
+mod Bodies
+mod Reading
+mod Running
+mod Tracking
+mod Heads
+mod Ending
+mod Users
+mod BodyRoom
+mod Rooming
+mod Safe
+mod OneCut
+mod SomeCut
