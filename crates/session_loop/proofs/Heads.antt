@@ -15,7 +15,7 @@ use Rattle.session_loop.specs.Cutting.{Request, Ending, ended, HasHead, IsBody, 
 use Rattle.session_loop.specs.Courses.{Course, ends, refusing, ending_course, course}
 use Rattle.session_loop.specs.Sessions.{Machine, Serves, Follows, BodyServes, stops, whole, Future, IsRefusing}
 use Rattle.session_loop.specs.declared.want.SessionEnd.TheVariants.{Ended}
-use Rattle.session_loop.proofs.Answering.{future_refused, no_truth}
+use Rattle.session_loop.proofs.Answered.{future_refused, no_truth}
 use Rattle.session_loop.proofs.Bodies.{drop_here, take_here}
 
 -- ---- no head, and a head
@@ -85,12 +85,14 @@ long_tracks m n found refuses rest c (requests, ending, cut, e) = go requests cu
   where
     there : FindsHeadEnd (m.input ++ rest) heads.TooLong
     there = found_stays m.input rest heads.TooLong too_long_not_more found
+
     stopped : (ending : Ending) → Stops m.names (m.input ++ rest) ending → c ≡ ending_course ending → Future n rest c
     stopped ending (nothing few none) e = absurd (not_both (length (m.input ++ rest)) there.0 few)
     stopped ending (open_head few none some) e = absurd (not_both (length (m.input ++ rest)) there.0 few)
     stopped ending (long_head many none) e = future_refused 431 n rest c refuses e
     stopped ending (bad_head k status has) e = absurd (no_head m.names (m.input ++ rest) k (Err status) there.1 has)
     stopped ending (in_body k parts x has s) e = absurd (no_head m.names (m.input ++ rest) k (Ok parts) there.1 has)
+
     go : (requests : List Request) → Cut m.names m.left (m.input ++ rest) requests ending → c ≡ course m.names m.left requests ending → Future n rest c
     go [] cut e = stopped ending cut e
     go (r ∷ requests) cut e = absurd (no_head m.names (m.input ++ rest) cut.1.head_length (Ok cut.1.parts) there.1 cut.1.head)
@@ -103,8 +105,10 @@ bad_head_tracks m n end status found reads refuses rest c (requests, ending, cut
   where
     there : FindsHeadEnd (m.input ++ rest) (heads.At end)
     there = found_stays m.input rest (heads.At end) (not_more_at end) found
+
     said : ReadsHead m.names (take end (m.input ++ rest)) (Err status)
     said = subst (λ (l : List ℕ). ReadsHead m.names l (Err status)) (sym (take_here m.input rest end found.1.within)) reads
+
     stopped : (ending : Ending) → Stops m.names (m.input ++ rest) ending → c ≡ ending_course ending → Future n rest c
     stopped ending (nothing few none) e = absurd (no_nothing m.names (m.input ++ rest) end there.0 there.1 none)
     stopped ending (open_head few none some) e = absurd (no_open m.names (m.input ++ rest) end there.0 there.1 none)
@@ -114,6 +118,7 @@ bad_head_tracks m n end status found reads refuses rest c (requests, ending, cut
         future_refused status n rest c refuses (e ∙ ap refusing (sym (err_same status other x.1)))
     stopped ending (in_body k parts x has s) e =
         absurd (err_not_ok status parts (same_said m.names (m.input ++ rest) end there.0 there.1 (Err status) (Ok parts) k said has).1)
+
     go : (requests : List Request) → Cut m.names m.left (m.input ++ rest) requests ending → c ≡ course m.names m.left requests ending → Future n rest c
     go [] cut e = stopped ending cut e
     go (r ∷ requests) cut e =
@@ -128,12 +133,16 @@ head_tracks m n end parts found reads names left user body rest c (requests, end
   where
     there : FindsHeadEnd (m.input ++ rest) (heads.At end)
     there = found_stays m.input rest (heads.At end) (not_more_at end) found
+
     said : ReadsHead m.names (take end (m.input ++ rest)) (Ok parts)
     said = subst (λ (l : List ℕ). ReadsHead m.names l (Ok parts)) (sym (take_here m.input rest end found.1.within)) reads
+
     place : drop end (m.input ++ rest) ≡ drop end m.input ++ rest
     place = drop_here m.input rest end found.1.within
+
     reading : (other : Parts) → parts ≡ other → fresh other.framing ≡ n.body
     reading other e = ap (λ (p : Parts). fresh p.framing) (sym e) ∙ sym body
+
     stopped : (ending : Ending) → Stops m.names (m.input ++ rest) ending → c ≡ ending_course ending → BodyServes n parts.route parts.close (drop end m.input ++ rest) c
     stopped ending (nothing few none) e = absurd (no_nothing m.names (m.input ++ rest) end there.0 there.1 none)
     stopped ending (open_head few none some) e = absurd (no_open m.names (m.input ++ rest) end there.0 there.1 none)
@@ -147,11 +156,13 @@ head_tracks m n end parts found reads names left user body rest c (requests, end
         (subst (λ (r : Route). StopsInBody r n.body (drop end m.input ++ rest) ending) (ap (λ (p : Parts). p.route) (sym same))
         (subst (λ (l : List ℕ). StopsInBody other.route n.body l ending) (ap (λ (i : ℕ). drop i (m.input ++ rest)) y.0 ∙ place)
         (subst (λ (b : Reading). StopsInBody other.route b (drop k (m.input ++ rest)) ending) (reading other same) s))) e
+
     followed : (b : Bool) (r : Request) (requests : List Request) (used : ℕ) → is_last m.left r.close ≡ b
         → (IsTrue (is_last m.left r.close) → (requests ≡ []) × (ending ≡ ended)) → (is_last m.left r.close ≡ false → Cut m.names (m.left - 1) (drop used (m.input ++ rest)) requests ending)
         → Follows m.names m.left r.close (drop used (m.input ++ rest)) (if is_last m.left r.close then ends Ended else course m.names (m.left - 1) requests ending)
     followed true r requests used last closes stays = rw last (record { closes = λ t. refl; stays = λ f. absurd (let x = sym last ∙ f in cc) })
     followed false r requests used last closes stays = rw last (record { closes = λ t. absurd (no_truth (subst IsTrue last t)); stays = λ f. (requests, ending, stays last, refl) })
+
     go : (requests : List Request) → Cut m.names m.left (m.input ++ rest) requests ending → c ≡ course m.names m.left requests ending
         → BodyServes n parts.route parts.close (drop end m.input ++ rest) c
     go [] cut e = stopped ending cut e
@@ -164,9 +175,9 @@ head_tracks m n end parts found reads names left user body rest c (requests, end
         let go_on : Course = if is_last m.left r.close then ends Ended else course m.names (m.left - 1) requests ending in
         let f : Follows m.names m.left r.close (drop used (m.input ++ rest)) go_on = followed (is_last m.left r.close) r requests used refl closes stays in
         let where_is : drop used (m.input ++ rest) ≡ drop is.body_length (drop end m.input ++ rest) =
-            ap (λ (k : ℕ). drop k (m.input ++ rest)) is.used_is ∙ sym (drop-drop is.body_length is.head_length (m.input ++ rest)) ∙ ap (drop is.body_length) at in
+        ap (λ (k : ℕ). drop k (m.input ++ rest)) is.used_is ∙ sym (drop-drop is.body_length is.head_length (m.input ++ rest)) ∙ ap (drop is.body_length) at in
         let f2 : Follows n.names n.left parts.close (drop is.body_length (drop end m.input ++ rest)) go_on =
-            rw (names, left, ← close_is) (subst (λ (l : List ℕ). Follows m.names m.left r.close l go_on) where_is f) in
+        rw (names, left, ← close_is) (subst (λ (l : List ℕ). Follows m.names m.left r.close l go_on) where_is f) in
         whole is.body_length is.body r.wish
         (subst (λ (b : Reading). IsBody b (drop end m.input ++ rest) is.body_length is.body) (reading is.parts same)
         (subst (λ (l : List ℕ). IsBody (fresh is.parts.framing) l is.body_length is.body) at is.is_body))

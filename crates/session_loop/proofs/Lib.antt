@@ -1,8 +1,8 @@
-mod Answering
+mod Answered
 mod Telling
 mod Bodies
-mod Reading
-mod Running
+mod ReadBytes
+mod RunCalls
 mod Tracking
 mod Heads
 mod Ending

@@ -1,5 +1,5 @@
 -- Bytes are cut in one way.
-use Rattle.std.proofs.Common.{◌≡◌, ◌⊎◌, ◌<◌, ◌≤◌, ◌+◌, ◌-◌, ℕ, List, [], ◌∷◌, length, take, drop, Bool, true, false, ◌||◌, ◌&&◌, IsTrue, Result, Ok, Err, arith, ap, sym, subst, refl, ◌∙◌, inl, inr, if◌then◌else◌, nat_le}
+use Rattle.std.proofs.Common.{◌≡◌, ◌⊎◌, ◌<◌, ◌≤◌, ◌-◌, ℕ, List, [], ◌∷◌, length, take, drop, Bool, true, false, IsTrue, Result, Ok, Err, arith, ap, sym, subst, refl, ◌∙◌, inl, inr, if◌then◌else◌, nat_le}
 use Rattle.std.proofs.lemmas.Grind.{common_steps}
 use Rattle.std.specs.List.{list_any}
 use Rattle.http_head.specs.Heads.{is_text}
@@ -149,7 +149,7 @@ requests_are_one names bytes i j r q x y =
     (subst (λ (t : Parts). IsBody (fresh t.framing) (drop x.head_length bytes) y.body_length y.body) (sym p)
     (subst (λ (k : ℕ). IsBody (fresh y.parts.framing) (drop k bytes) y.body_length y.body) (sym s.0) y.is_body)) in
     let wish : r.wish ≡ q.wish =
-        ok_same r.wish q.wish (sym x.wish ∙ ap (wish_of x.parts.route) b.1 ∙ ap (λ (t : Parts). wish_of t.route y.body) p ∙ y.wish) in
+    ok_same r.wish q.wish (sym x.wish ∙ ap (wish_of x.parts.route) b.1 ∙ ap (λ (t : Parts). wish_of t.route y.body) p ∙ y.wish) in
     let user : r.user ≡ q.user = x.user_is ∙ ap (λ (t : Parts). t.user) p ∙ sym y.user_is in
     let close : r.close ≡ q.close = x.close_is ∙ ap (λ (t : Parts). t.close) p ∙ sym y.close_is in
     let used : i ≡ j = omega (arith, x.used_is, y.used_is, s.0, b.0) in

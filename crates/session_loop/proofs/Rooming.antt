@@ -159,9 +159,9 @@ source_falls Heading m n end at wants over room has =
 source_falls (InBody route close) m n end at wants over room has =
     let h = subst (λ (st : Stage). RoomAt st m room) at has in
     (0, omega (arith, h.1), subst (λ (st : Stage). RoomAt st n 0) (sym over) tt)
-source_falls (Timing route close) m n end at wants over = absurd cc
-source_falls (Running doc close) m n end at wants over = absurd cc
-source_falls (Filing doc close) m n end at wants over = absurd cc
-source_falls (Fronting doc close) m n end at wants over = absurd cc
-source_falls (Writing next) m n end at wants over = absurd cc
-source_falls (Over other) m n end at wants over = absurd cc
+source_falls (Timing route close) m n end at wants over room has = absurd cc
+source_falls (Running doc close) m n end at wants over room has = absurd cc
+source_falls (Filing doc close) m n end at wants over room has = absurd cc
+source_falls (Fronting doc close) m n end at wants over room has = absurd cc
+source_falls (Writing next) m n end at wants over room has = absurd cc
+source_falls (Over other) m n end at wants over room has = absurd cc

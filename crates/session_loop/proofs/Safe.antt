@@ -1,22 +1,14 @@
 -- Each step of a session leaves it safe.
-use Rattle.std.proofs.Common.{◌≡◌, ℕ, ◌<◌, ◌^◌, List, length, Option, Some, None, Ok, Bool, sym, subst}
+use Rattle.std.proofs.Common.{◌≡◌, ℕ, ◌<◌, List, length, Option, Some, None, Bool, sym, subst}
 use Rattle.std.specs.Prelude.{IfSome}
 use Rattle.doc_model.specs.Histories.{Fits}
-use Rattle.doc_model.specs.Laws.{KeepsSound}
-use Rattle.doc_model.specs.Sound.{Sound, Valid}
-use Rattle.doc_model.specs.declared.reply.Submitted.TheVariants.{Answered, DiskFault, JournalFull, NoMemory}
-use Rattle.session_loop.specs.Driving.{Kept, IsSubmitted, IsLone}
+use Rattle.doc_model.specs.Sound.{Valid}
 use Rattle.doc_model.specs.declared.call.Call.{Call}
 use Rattle.doc_model.specs.declared.reply.Submitted.{Submitted}
 use Rattle.http_head.specs.declared.answer.Media.{Media}
-use Rattle.envelope_read.specs.Verdicts.{verdict}
-use Rattle.envelope_read.specs.declared.collection.Collection.{Collection}
-use Rattle.collection_run.specs.Callable.{AreCallable}
-use Rattle.collection_run.specs.Collections.{Caller, process}
 use Rattle.collection_run.specs.declared.progress.Progress.{Progress}
 use Rattle.collection_run.specs.Processes.{Process, says, calls, Asks, after, IsServable}
 use Rattle.collection_run.specs.Progress.{process_of}
-use Rattle.collection_run.proofs.Servable.{servable}
 use Rattle.session_loop.specs.Sessions.{Machine, IsRefusing, IsAnswering, IsOutOf, CallAt, IsCallOf, WantsIs, SettledAt, IsSettled}
 use Rattle.session_loop.specs.declared.want.Want.{Want}
 use Rattle.session_loop.specs.declared.want.Want.TheVariants.{Submit}

@@ -8,14 +8,13 @@ use Rattle.httparse.specs.Grammar.{chunk_size}
 use Rattle.httparse.specs.Spans.{name_and_value}
 use Rattle.http_head.specs.Heads.{is_text, ends_head, HasNoHeadEnd, IsHeadOf}
 use Rattle.http_head.specs.Requests.{Parts, ReadsHead, judge}
-use Rattle.http_head.specs.Bodies.{Reading, at, fresh, counted, chunked, IsSizeOf, LineStep, after_line, inside_line, StepAt, Goes, IsOpen, Feeds, settled}
+use Rattle.http_head.specs.Bodies.{Reading, fresh, IsSizeOf, LineStep, after_line, inside_line, StepAt, Goes, IsOpen, Feeds, settled}
 use Rattle.http_head.specs.declared.body.Fed.{Fed}
 use Rattle.http_head.specs.declared.body.Fed.TheVariants.{More, Done, Bad}
 use Rattle.http_head.specs.declared.body.Place.{Place}
 use Rattle.http_head.specs.declared.body.Place.TheVariants.{Counted, Line, Chunk, ChunkReturn, ChunkFeed, LastReturn, LastFeed, Whole, Malformed, TooLarge}
-use Rattle.http_head.specs.declared.target.Route.{Route}
 use Rattle.http_head.proofs.OneReading.{decide}
-use Rattle.session_loop.specs.Cutting.{Wish, Request, Ending, ended, cut_off, refused, refused_envelope, HasHead, wish_of, IsBody, StopsInBody, open_body, bad_body, bad_envelope, Stops, nothing, open_head, long_head, bad_head, in_body, IsRequestTo, Cut, is_last}
+use Rattle.session_loop.specs.Cutting.{Wish, Request, Ending, ended, cut_off, refused, refused_envelope, HasHead, wish_of, IsBody, open_body, bad_body, bad_envelope, nothing, open_head, long_head, bad_head, in_body, IsRequestTo, Cut, is_last}
 
 -- it can't be that there is none
 abbrev Possible : Type 0 → Type 0
@@ -106,7 +105,7 @@ reach_feeds Malformed s bytes r is = (Bad 400, (r.used, record { within = r.with
 reach_feeds TooLarge s bytes r is = (Bad 413, (r.used, record { within = r.within; goes = r.goes; answer = ap (λ (p : Place). settled p r.used) is }))
 
 feeds_possible : (s : Reading) (bytes : List ℕ) → Possible ((t : Reading) × (fed : Fed) × Feeds s bytes t fed)
-feeds_possible s bytes none = reach_possible bytes s (λ r. none (r.last, reach_feeds r.last.place s bytes r refl))
+feeds_possible s bytes none = reach_possible bytes s (λ r. let f = reach_feeds r.last.place s bytes r refl in none (r.last, f.0, f.1))
 
 -- ---- a head
 
@@ -122,13 +121,16 @@ search bytes (suc n) = go (search bytes n) (ends_head (take n bytes)) refl
   where
     here_or : (k : ℕ) → k < suc n → (k < n) ⊎ (k ≡ n)
     here_or k less = grind (arith, common_steps)
+
     no_truth : IsTrue false → ⊥
     no_truth h = cc
+
     still : ends_head (take n bytes) ≡ false → ((k : ℕ) → k < n → ¬ IsTrue (ends_head (take k bytes))) → (k : ℕ) → k < suc n → ¬ IsTrue (ends_head (take k bytes))
     still is none k less ends = elim (here_or k less) [
       | inl below ↦ none k below ends
       | inr same ↦ no_truth (subst IsTrue is (subst (λ (i : ℕ). IsTrue (ends_head (take i bytes))) same ends))
     ]
+
     go : ((m : ℕ) × (m < n) × IsTrue (ends_head (take m bytes)) × ((k : ℕ) → k < m → ¬ IsTrue (ends_head (take k bytes))))
         ⊎ ((k : ℕ) → k < n → ¬ IsTrue (ends_head (take k bytes))) → (b : Bool) → ends_head (take n bytes) ≡ b
         → ((m : ℕ) × (m < suc n) × IsTrue (ends_head (take m bytes)) × ((k : ℕ) → k < m → ¬ IsTrue (ends_head (take k bytes))))
@@ -166,17 +168,17 @@ module _ (names : List (List ℕ)) (left : ℕ) (bytes : List ℕ) (later : (use
       → wish_of parts.route body ≡ w → Possible (SomeCut names left bytes)
   wished n used parts body (Err status) head is w none =
       none ([], refused_envelope status, in_body n parts (refused_envelope status) head (bad_envelope used status body is w))
-  wished n used parts body (Ok wish) head is w =
+  wished n used parts body (Ok wish) head is w none =
       let r : Request = record { wish = wish; user = parts.user; close = parts.close } in
       let some : 0 < n = no_empty_head bytes n head.head in
       after_request names left bytes (n + used) r (is_last left r.close) refl
       (record { head_length = n; body_length = used; parts = parts; head = head; body = body; is_body = is; wish = w; used_is = refl; user_is = refl; close_is = refl })
-      (later (n + used) (omega (arith, some)) (let w = head.head.within in omega (arith, some, w)))
+      (later (n + used) (omega (arith, some)) (let w = head.head.within in omega (arith, some, w))) none
 
   fed_on : (n : ℕ) (parts : Parts) (t : Reading) (fed : Fed) → HasHead names bytes n (Ok parts) → Feeds (fresh parts.framing) (drop n bytes) t fed → Possible (SomeCut names left bytes)
   fed_on n parts t More head feeds none = none ([], cut_off, in_body n parts cut_off head (open_body t feeds))
   fed_on n parts t (Bad status) head feeds none = none ([], refused status, in_body n parts (refused status) head (bad_body t status feeds))
-  fed_on n parts t (Done used) head feeds = wished n used parts t.body (wish_of parts.route t.body) head (t, feeds, refl) refl
+  fed_on n parts t (Done used) head feeds none = wished n used parts t.body (wish_of parts.route t.body) head (t, feeds, refl) refl none
 
   read_on : (n : ℕ) (v : Result Parts ℕ) → HasHead names bytes n v → Possible (SomeCut names left bytes)
   read_on n (Err status) head none = none ([], refused status, bad_head n status head)

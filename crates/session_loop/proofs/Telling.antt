@@ -21,7 +21,7 @@ use Rattle.session_loop.specs.declared.want.Want.TheVariants.{Front}
 use Rattle.session_loop.specs.declared.want.SessionEnd.{SessionEnd}
 use Rattle.session_loop.specs.declared.stage.Stage.{Stage}
 use Rattle.session_loop.specs.declared.stage.Stage.TheVariants.{Timing, Running, Filing, Fronting, Writing, Over}
-use Rattle.session_loop.proofs.Answering.{IsAnswered, refused_future, future_refused, answered_future, future_answered}
+use Rattle.session_loop.proofs.Answered.{IsAnswered, refused_future, future_refused, answered_future, future_answered}
 
 -- ---- a count
 
@@ -91,7 +91,7 @@ wish_leads m n r moment close wish at is serves rest d future =
     let c : Course = tells (λ k. granted m.names k m.user wish (is_last m.left close) a.0) in (
       c,
       subst (λ (st : Stage). FutureAt st m rest c) (sym at)
-      (subst (λ (w : Result Wish ℕ). Judged m close w (m.input ++ rest) c) (sym is) (a.0, a.1, refl)),
+          (subst (λ (w : Result Wish ℕ). Judged m close w (m.input ++ rest) c) (sym is) (a.0, a.1, refl)),
       a.2,
     )
 
@@ -110,7 +110,7 @@ pub refusal_leads : (m n : Machine) (r : Route) (moment status : ℕ) (close : B
 refusal_leads m n r moment status close at is refuses rest d future = (
   tells (λ k. refusing status),
   subst (λ (st : Stage). FutureAt st m rest (tells (λ k. refusing status))) (sym at)
-  (subst (λ (w : Result Wish ℕ). Judged m close w (m.input ++ rest) (tells (λ k. refusing status))) (sym is) refl),
+      (subst (λ (w : Result Wish ℕ). Judged m close w (m.input ++ rest) (tells (λ k. refusing status))) (sym is) refl),
   refused_future status n rest d refuses future,
 )
 
@@ -137,7 +137,7 @@ run_leads m n p q doc call submitted close at runner asks goes on rest d future 
     let c : Course = run (process_of p) k in (
       c,
       subst (λ (st : Stage). FutureAt st m rest c) (sym at)
-      (subst (λ (x : Option Progress). RunServes m close x (m.input ++ rest) c) (sym runner) (a.0, a.1, refl)),
+          (subst (λ (x : Option Progress). RunServes m close x (m.input ++ rest) c) (sym runner) (a.0, a.1, refl)),
       subst (λ (x : Course). Passes c (made doc call submitted) x) (sym (a.2 ∙ ap (λ (x : Process). run x k) goes)) (run_makes (process_of p) doc call k submitted asks),
     )
 
@@ -150,7 +150,7 @@ run_tracks m n p q doc call submitted close at runner asks goes on rest c future
       d,
       on.on rest d (a.0, a.1, refl),
       subst (λ (x : Course). Passes x (made doc call submitted) d) (sym a.2)
-      (subst (λ (x : Course). Passes (run (process_of p) k) (made doc call submitted) x) (sym (ap (λ (x : Process). run x k) goes)) (run_makes (process_of p) doc call k submitted asks)),
+          (subst (λ (x : Course). Passes (run (process_of p) k) (made doc call submitted) x) (sym (ap (λ (x : Process). run x k) goes)) (run_makes (process_of p) doc call k submitted asks)),
     )
 
 -- whichever document is named

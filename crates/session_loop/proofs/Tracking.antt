@@ -11,7 +11,7 @@ use Rattle.session_loop.specs.Courses.{refusing, ending_course}
 use Rattle.session_loop.specs.Sessions.{Machine, Judged, BodyServes, stops, whole, Future, FutureAt, IsRefusing, TracksInBody}
 use Rattle.session_loop.specs.declared.stage.Stage.{Stage}
 use Rattle.session_loop.specs.declared.stage.Stage.TheVariants.{InBody, Timing}
-use Rattle.session_loop.proofs.Answering.{future_refused}
+use Rattle.session_loop.proofs.Answered.{future_refused}
 use Rattle.session_loop.proofs.Bodies.{feeds_ended, feeds_cut, drop_later, drop_here}
 
 -- ---- outcomes
@@ -54,6 +54,7 @@ more_tracks m n route close bytes names left user at first rest c serves =
   where
     judged : (wish : Wish) (l : List ℕ) → Judged m close (Ok wish) l c → Judged n close (Ok wish) l c
     judged wish l h = rw (names, left, user) h
+
     stopped : (ending : Ending) → StopsInBody route m.body (bytes ++ rest) ending → StopsInBody route n.body rest ending
     stopped ending (open_body u feeds) =
         let x = later_only m.body n.body u bytes rest More first feeds in
@@ -65,6 +66,7 @@ more_tracks m n route close bytes names left user at first rest c serves =
         let x = later_only m.body n.body u bytes rest (Done used) first feeds in
         let y = behind_done (length bytes) used x.0 x.2 in
         bad_envelope y.0 status body (u, subst (λ (f : Fed). Feeds n.body rest u f) y.1 x.1, is) w
+
     go : BodyServes m route close (bytes ++ rest) c → BodyServes n route close rest c
     go (stops ending s e) = stops ending (stopped ending s) e
     go (whole used body wish (u, feeds, is) w j) =
@@ -103,8 +105,10 @@ done_tracks m n route close bytes used names left user at input within first res
     judged : (w : Result Wish ℕ) → Judged m close w (drop used bytes ++ rest) c → Judged n close w (drop used bytes ++ rest) c
     judged (Ok wish) h = rw (names, left, user) h
     judged (Err status) h = h
+
     same_body : (u : Reading) (body : List ℕ) → n.body ≡ u → u.body ≡ body → n.body.body ≡ body
     same_body u body e f = ap (λ (x : Reading). x.body) e ∙ f
+
     refuses : (ending : Ending) → StopsInBody route m.body (bytes ++ rest) ending → c ≡ ending_course ending → Judged n close (wish_of route n.body.body) (drop used bytes ++ rest) c
     refuses ending (open_body u feeds) e = absurd (done_not_more used (ended_only m.body n.body u bytes rest (Done used) More (done_not_more used) first feeds).1)
     refuses ending (bad_body u status feeds) e = absurd (done_not_bad used status (ended_only m.body n.body u bytes rest (Done used) (Bad status) (done_not_more used) first feeds).1)
@@ -112,6 +116,7 @@ done_tracks m n route close bytes used names left user at input within first res
         let x = ended_only m.body n.body u bytes rest (Done used) (Done i) (done_not_more used) first feeds in
         let b : wish_of route n.body.body ≡ Err status = ap (wish_of route) (same_body u body x.0 is) ∙ w in
         subst (λ (r : Result Wish ℕ). Judged n close r (drop used bytes ++ rest) c) (sym b) e
+
     go : BodyServes m route close (bytes ++ rest) c → Judged n close (wish_of route n.body.body) (drop used bytes ++ rest) c
     go (stops ending s e) = refuses ending s e
     go (whole i body wish (u, feeds, is) w j) =
@@ -132,6 +137,7 @@ bad_tracks m n t route close bytes status first refusing rest c serves = go serv
         future_refused status n rest c refusing (e ∙ ap (λ (k : ℕ). ending_course (refused k)) (sym (bad_same status other x.1)))
     stopped ending (bad_envelope i other body (u, feeds, is) w) e =
         absurd (done_not_bad i status (sym (ended_only m.body t u bytes rest (Bad status) (Done i) (bad_not_more status) first feeds).1))
+
     go : BodyServes m route close (bytes ++ rest) c → Future n rest c
     go (stops ending s e) = stopped ending s e
     go (whole i body wish (u, feeds, is) w j) =

@@ -99,6 +99,7 @@ posted_small (Length bytes) e = go (nat_le bytes 25_165_824) refl e
   where
     few : nat_le bytes 25_165_824 ≡ true → bytes ≤ 25_165_824
     few h = grind (arith, common_steps)
+
     go : (b : Bool) → nat_le bytes 25_165_824 ≡ b → if◌then◌else◌ {A = Option ℕ} b None (Some 413) ≡ None → body_room (fresh (Length bytes)) ≤ most_body_room
     go true is h = length_small bytes (bytes == 0) refl (few is)
     go false is h = absurd cc
@@ -117,17 +118,22 @@ module _ (parts : Parts) (names : List (List ℕ)) where
     where
       said : Parts
       said = record { route = route; framing = framing; close = closes minor (values_of (codes "connection") headers); user = user }
+
       same : body_room (fresh framing) ≤ most_body_room → ◌≡◌ {A = Result Parts ℕ} (Ok said) (Ok parts) → IsGood names parts
       same small f = subst (IsGood names) (ok_same said parts f) (ascii, small, routes)
+
       typed : (b : Bool) → is_other_type (values_of (codes "content-type") headers) ≡ b → is_posted route ≡ true → posted_status framing ≡ None → IsGood names parts
       typed true is a n = absurd (err_not_ok 415 parts (rw (a, n, is) at e))
       typed false is a n = same (posted_small framing n) (rw (a, n, is) at e)
+
       status : (o : Option ℕ) → posted_status framing ≡ o → is_posted route ≡ true → IsGood names parts
       status (Some x) is a = absurd (err_not_ok x parts (rw (a, is) at e))
       status None is a = typed (is_other_type (values_of (codes "content-type") headers)) refl a is
+
       bare : (b : Bool) → is_bare framing ≡ b → is_posted route ≡ false → IsGood names parts
       bare true is a = same (bare_small framing is) (rw (a, is) at e)
       bare false is a = absurd (err_not_ok 400 parts (rw (a, is) at e))
+
       posted : (b : Bool) → is_posted route ≡ b → IsGood names parts
       posted true is = status (posted_status framing) refl is
       posted false is = bare (is_bare framing) refl is
@@ -139,6 +145,7 @@ module _ (parts : Parts) (names : List (List ℕ)) where
           → (o : Option (List ℕ)) → user_of (values_of (codes "x-cell-user") headers) ≡ o → IsGood names parts
       used framing f None is = absurd (err_not_ok 400 parts (rw (f, is, judge_headers) at e))
       used framing f (Some user) is = in_body route framing user minor headers (of_ascii (values_of (codes "x-cell-user") headers) user is) routes (rw (f, is, judge_headers) at e)
+
       framed : (o : Option Framing) → framing_of (values_of (codes "content-length") headers) (values_of (codes "transfer-encoding") headers) ≡ o → IsGood names parts
       framed None is = absurd (err_not_ok 400 parts (rw (is, judge_headers) at e))
       framed (Some framing) is = used framing is (user_of (values_of (codes "x-cell-user") headers)) refl
@@ -149,6 +156,7 @@ module _ (parts : Parts) (names : List (List ℕ)) where
       fitted : (route : Route) → route_of names target ≡ Some route → (b : Bool) → fits route method ≡ b → IsGood names parts
       fitted route r true is = in_headers route minor headers (route_in names (before_question target) route r) (rw (r, is, judge) at e)
       fitted route r false is = absurd (err_not_ok 405 parts (rw (r, is, judge) at e))
+
       routed : (o : Option Route) → route_of names target ≡ o → IsGood names parts
       routed None is = absurd (err_not_ok 404 parts (rw (is, judge) at e))
       routed (Some route) is = fitted route is (fits route method) refl

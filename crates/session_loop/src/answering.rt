@@ -1,5 +1,5 @@
 // Answers and refusals.
-ghost use Rattle.std.specs.Prelude.{◌≡◌, ℕ, ⊥, IsTrue, length, IfOk, OnOk};
+ghost use Rattle.std.specs.Prelude.{◌≡◌, ℕ, IsTrue, IfOk, OnOk};
 ghost use Rattle.http_head.specs.Answers.{has_reason};
 ghost use Rattle.session_loop.specs.Courses.{counted};
 ghost use Rattle.session_loop.specs.Rooms.{Falls};

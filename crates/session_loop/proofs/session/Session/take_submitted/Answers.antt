@@ -1,6 +1,6 @@
 use Rattle.std.proofs.Common.{◌∙◌, sym, ap}
 use Rattle.session_loop.specs.Sessions.{Machine, RunsOn}
-use Rattle.session_loop.proofs.Running.{runs_like, run_leads_any, run_tracks_any, file_leads_any, file_tracks_any}
+use Rattle.session_loop.proofs.RunCalls.{runs_like, run_leads_any, run_tracks_any, file_leads_any, file_tracks_any}
 use Rattle.std.proofs.Common.{◌≤◌, ◌+◌, ℕ, Option, subst}
 use Rattle.http_head.specs.declared.answer.Media.TheVariants.{Binary}
 use Rattle.collection_run.specs.Progress.{process_of}
@@ -13,13 +13,13 @@ use Rattle.collection_run.specs.Processes.{IsServable, AtMost}
 use Rattle.session_loop.specs.Safety.{IsSafe}
 use Rattle.session_loop.proofs.Safe.{running_safe, answering_safe}
 use Rattle.session_loop.specs.Rooms.{later, HasRoom}
-use Rattle.session_loop.proofs.running.Session.take_submitted.Goals as goal
+use Rattle.session_loop.proofs.session.Session.take_submitted.Goals as goal
 
 pub returns-in_ok-run_on-in-Some-clause-leads : goal.returns-in_ok-run_on-in-Some-clause-leads
 returns-in_ok-run_on-in-Some-clause-leads c =
     let m = c.args.self.now in
     let on : RunsOn m c.give.new.self c.in-Running.close c.run_on.new.self = runs_like m _ c.run_on.new.self c.give.new.self c.in-Running.close
-        (ap (λ (x : Machine). x.names) c.self.view_is) (ap (λ (x : Machine). x.left) c.self.view_is) (ap (λ (x : Machine). x.input) c.self.view_is) c.in_ok-run_on-in-Some.ensures.runs in
+    (ap (λ (x : Machine). x.names) c.self.view_is) (ap (λ (x : Machine). x.left) c.self.view_is) (ap (λ (x : Machine). x.input) c.self.view_is) c.in_ok-run_on-in-Some.ensures.runs in
     run_leads_any m c.run_on.new.self c.in-Some.runner c.give.new.self c.in-Running.doc c.args.submitted c.in-Running.close
     (sym (ap (λ (x : Machine). x.stage) c.self.view_is) ∙ c.in-Running.is) (sym (ap (λ (x : Machine). x.runner) c.self.view_is) ∙ sym c.in-Some.ensures.value)
     c.in_ok-give-in-Some.ensures.goes_on on
@@ -33,7 +33,7 @@ pub returns-in_ok-run_on-in-Some-clause-tracks : goal.returns-in_ok-run_on-in-So
 returns-in_ok-run_on-in-Some-clause-tracks c =
     let m = c.args.self.now in
     let on : RunsOn m c.give.new.self c.in-Running.close c.run_on.new.self = runs_like m _ c.run_on.new.self c.give.new.self c.in-Running.close
-        (ap (λ (x : Machine). x.names) c.self.view_is) (ap (λ (x : Machine). x.left) c.self.view_is) (ap (λ (x : Machine). x.input) c.self.view_is) c.in_ok-run_on-in-Some.ensures.runs in
+    (ap (λ (x : Machine). x.names) c.self.view_is) (ap (λ (x : Machine). x.left) c.self.view_is) (ap (λ (x : Machine). x.input) c.self.view_is) c.in_ok-run_on-in-Some.ensures.runs in
     run_tracks_any m c.run_on.new.self c.in-Some.runner c.give.new.self c.in-Running.doc c.args.submitted c.in-Running.close
     (sym (ap (λ (x : Machine). x.stage) c.self.view_is) ∙ c.in-Running.is) (sym (ap (λ (x : Machine). x.runner) c.self.view_is) ∙ sym c.in-Some.ensures.value)
     c.in_ok-give-in-Some.ensures.goes_on on

@@ -13,7 +13,7 @@ use Rattle.session_loop.specs.declared.want.Want.{Want}
 use Rattle.session_loop.specs.declared.want.Want.TheVariants.{Submit}
 use Rattle.session_loop.specs.declared.stage.Stage.{Stage}
 use Rattle.session_loop.specs.declared.stage.Stage.TheVariants.{Running, Filing}
-use Rattle.session_loop.proofs.Answering.{IsAnswered, answered_future, future_answered}
+use Rattle.session_loop.proofs.Answered.{IsAnswered, answered_future, future_answered}
 use Rattle.session_loop.proofs.Telling.{run_leads, run_tracks}
 
 -- what follows the text of the present envelope

@@ -2,10 +2,10 @@ use Rattle.std.proofs.Common.{ℕ, ◌-◌, List, [], ◌++◌, drop, ◌∙◌,
 use Rattle.session_loop.specs.Sessions.{Machine, Serves, Leads}
 use Rattle.session_loop.specs.declared.stage.Stage.TheVariants.{Heading, Over, Writing}
 use Rattle.session_loop.proofs.Telling.{end_leads, next_leads}
-use Rattle.std.proofs.Common.{◌≤◌, ◌+◌, length}
+use Rattle.std.proofs.Common.{◌≤◌, length}
 use Rattle.session_loop.proofs.Rooming.{end_falls, next_falls}
 use Rattle.session_loop.specs.Rooms.{head_steps, HasRoom}
-use Rattle.session_loop.proofs.reading.Session.take_written.Goals as goal
+use Rattle.session_loop.proofs.session.Session.take_written.Goals as goal
 
 pub returns-in-Some-clause-leads : goal.returns-in-Some-clause-leads
 returns-in-Some-clause-leads c =
@@ -22,9 +22,9 @@ returns-in_ok-read_request-in-None-clause-leads c =
     let leads : Leads k [] c.read_request.new.self = c.in_ok-read_request-in-None.ensures.leads in
     next_leads m c.read_request.new.self (sym (ap (λ (x : Machine). x.stage) c.self.view_is) ∙ c.in-Writing.is ∙ ap Writing c.in-None.is)
     (λ rest course future.
-        subst (λ (l : List ℕ). Serves m.names (m.left - 1) (l ++ rest) course) (ap (λ (x : Machine). x.input) c.self.view_is)
-        (subst (λ (i : ℕ). Serves m.names i (k.input ++ rest) course) (c.saturating_sub-self-inside.ensures ∙ ap (λ (x : Machine). x.left - 1) c.self.view_is)
-        (subst (λ (names : List (List ℕ)). Serves names k.left (k.input ++ rest) course) (ap (λ (x : Machine). x.names) c.self.view_is) (leads rest course future))))
+    subst (λ (l : List ℕ). Serves m.names (m.left - 1) (l ++ rest) course) (ap (λ (x : Machine). x.input) c.self.view_is)
+    (subst (λ (i : ℕ). Serves m.names i (k.input ++ rest) course) (c.saturating_sub-self-inside.ensures ∙ ap (λ (x : Machine). x.left - 1) c.self.view_is)
+    (subst (λ (names : List (List ℕ)). Serves names k.left (k.input ++ rest) course) (ap (λ (x : Machine). x.names) c.self.view_is) (leads rest course future))))
 
 pub returns-in-Some-clause-falls : goal.returns-in-Some-clause-falls
 returns-in-Some-clause-falls c =

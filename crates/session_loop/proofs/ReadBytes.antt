@@ -17,7 +17,7 @@ use Rattle.session_loop.specs.Sessions.{Machine, Serves, Follows, Judged, BodySe
 use Rattle.session_loop.specs.declared.want.SessionEnd.TheVariants.{Ended}
 use Rattle.session_loop.specs.declared.stage.Stage.{Stage}
 use Rattle.session_loop.specs.declared.stage.Stage.TheVariants.{InBody, Timing}
-use Rattle.session_loop.proofs.Answering.{refused_future, no_truth}
+use Rattle.session_loop.proofs.Answered.{refused_future, no_truth}
 use Rattle.session_loop.proofs.Ending.{rest_is}
 use Rattle.session_loop.proofs.Bodies.{body_later, body_here, stops_later, stops_here, drop_later, drop_here, take_here}
 
@@ -31,6 +31,7 @@ more_leads m n route close bytes names left user at feeds rest c future =
   where
     judged : (wish : Wish) (l : List ℕ) → Judged n close (Ok wish) l c → Judged m close (Ok wish) l c
     judged wish l h = rw (sym names, sym left, sym user) h
+
     go : BodyServes n route close rest c → BodyServes m route close (bytes ++ rest) c
     go (stops ending s e) = stops ending (stops_later route m.body n.body bytes rest ending feeds s) e
     go (whole used body wish is w j) = whole (length bytes + used) body wish (body_later m.body n.body bytes rest used body feeds is) w
@@ -138,14 +139,16 @@ head_leads m n end parts found reads names left user body rest c serves = go ser
   where
     has : HasHead m.names (m.input ++ rest) end (Ok parts)
     has = head_stays m.names m.input rest end (Ok parts) found reads
+
     place : drop end (m.input ++ rest) ≡ drop end m.input ++ rest
     place = drop_here m.input rest end found.1.within
+
     go : BodyServes n parts.route parts.close (drop end m.input ++ rest) c → Serves m.names m.left (m.input ++ rest) c
     go (stops ending s e) = (
       [],
       ending,
       in_body end parts ending has (subst (λ (x : Reading). StopsInBody parts.route x (drop end (m.input ++ rest)) ending) body
-      (subst (λ (l : List ℕ). StopsInBody parts.route n.body l ending) (sym place) s)),
+          (subst (λ (l : List ℕ). StopsInBody parts.route n.body l ending) (sym place) s)),
       e,
     )
     go (whole used text wish is w (go_on, follows, e)) =

@@ -1,7 +1,7 @@
 use Rattle.std.proofs.Common.{◌∙◌, sym, ap}
 use Rattle.http_head.specs.declared.answer.Media.TheVariants.{Xml}
 use Rattle.session_loop.specs.Sessions.{Machine, IsAnswering}
-use Rattle.session_loop.proofs.Running.{runs_out, runs_done}
+use Rattle.session_loop.proofs.RunCalls.{runs_out, runs_done}
 use Rattle.std.proofs.Common.{◌+◌, drop, Some, refl, arith}
 use Rattle.session_loop.specs.declared.stage.Stage.TheVariants.{Running}
 use Rattle.session_loop.proofs.Rooming.{running_room, answering_room, more_room}
@@ -10,7 +10,7 @@ use Rattle.collection_run.specs.Processes.{IsServable}
 use Rattle.collection_run.specs.Progress.{process_of}
 use Rattle.session_loop.proofs.Safe.{answering_safe}
 use Rattle.session_loop.specs.Rooms.{later}
-use Rattle.session_loop.proofs.running.Session.run_on.Goals as goal
+use Rattle.session_loop.proofs.session.Session.run_on.Goals as goal
 
 pub returns-in-Some-clause-runs : goal.returns-in-Some-clause-runs
 returns-in-Some-clause-runs c =

@@ -9,12 +9,12 @@ use Rattle.session_loop.proofs.Ending.{slice_is}
 use Rattle.session_loop.proofs.Users.{read_is_good}
 use Rattle.session_loop.proofs.Heads.{long_tracks, bad_head_tracks, head_tracks}
 use Rattle.session_loop.proofs.Rooming.{refusing_room}
-use Rattle.session_loop.proofs.Reading.{long_leads, bad_head_leads, head_leads}
+use Rattle.session_loop.proofs.ReadBytes.{long_leads, bad_head_leads, head_leads}
 use Rattle.std.proofs.Common.{◌≤◌, ◌+◌, arith}
 use Rattle.session_loop.proofs.Rooming.{more_room}
 use Rattle.session_loop.proofs.Safe.{refusing_safe}
 use Rattle.session_loop.specs.Rooms.{body_room, most_body_room, later, head_steps}
-use Rattle.session_loop.proofs.reading.Session.read_request.Goals as goal
+use Rattle.session_loop.proofs.session.Session.read_request.Goals as goal
 
 pub returns-in-TooLong-clause-leads : goal.returns-in-TooLong-clause-leads
 returns-in-TooLong-clause-leads c rest course future =
@@ -36,8 +36,8 @@ returns-in-Err-clause-leads c rest course future =
     let end = c.in-At.end in
     let place = slice_is c.as_slice.result.now c.self.inside.input m.input c.self.inside.from c.as_slice.ensures (ap (λ (x : Machine). x.input) c.self.view_is) in
     let reads : ReadsHead m.names (take end m.input) (Err c.in-Err.status) =
-        subst (λ (names : List (List ℕ)). ReadsHead names (take end m.input) (Err c.in-Err.status)) (ap (λ (x : Machine). x.names) c.self.view_is)
-        (subst (λ (l : List ℕ). ReadsHead c.self.inside.names (take end l) (Err c.in-Err.status)) place c.in-Err.ensures.verdict) in
+    subst (λ (names : List (List ℕ)). ReadsHead names (take end m.input) (Err c.in-Err.status)) (ap (λ (x : Machine). x.names) c.self.view_is)
+    (subst (λ (l : List ℕ). ReadsHead c.self.inside.names (take end l) (Err c.in-Err.status)) place c.in-Err.ensures.verdict) in
     subst (λ (st : Stage). FutureAt st m rest course) (sym c.requires)
     (bad_head_leads m c.refuse-in-Err.new.self end c.in-Err.status (subst (λ (l : List ℕ). FindsHeadEnd l (heads.At end)) place c.in-At.ensures) reads
     c.in_ok-refuse-in-Err.ensures.is rest course future)
@@ -48,8 +48,8 @@ returns-in-Err-clause-tracks c rest course future =
     let end = c.in-At.end in
     let place = slice_is c.as_slice.result.now c.self.inside.input m.input c.self.inside.from c.as_slice.ensures (ap (λ (x : Machine). x.input) c.self.view_is) in
     let reads : ReadsHead m.names (take end m.input) (Err c.in-Err.status) =
-        subst (λ (names : List (List ℕ)). ReadsHead names (take end m.input) (Err c.in-Err.status)) (ap (λ (x : Machine). x.names) c.self.view_is)
-        (subst (λ (l : List ℕ). ReadsHead c.self.inside.names (take end l) (Err c.in-Err.status)) place c.in-Err.ensures.verdict) in
+    subst (λ (names : List (List ℕ)). ReadsHead names (take end m.input) (Err c.in-Err.status)) (ap (λ (x : Machine). x.names) c.self.view_is)
+    (subst (λ (l : List ℕ). ReadsHead c.self.inside.names (take end l) (Err c.in-Err.status)) place c.in-Err.ensures.verdict) in
     bad_head_tracks m c.refuse-in-Err.new.self end c.in-Err.status (subst (λ (l : List ℕ). FindsHeadEnd l (heads.At end)) place c.in-At.ensures) reads
     c.in_ok-refuse-in-Err.ensures.is rest course (subst (λ (st : Stage). FutureAt st m rest course) c.requires future)
 
@@ -69,8 +69,8 @@ returns-clause-leads c rest course future =
     let place = slice_is c.as_slice.result.now s.input m.input s.from c.as_slice.ensures input_is in
     let parts : Parts = record { route = h.route; framing = h.framing; close = h.close; user = user_at (take end m.input) h.user.from h.user.to } in
     let reads : ReadsHead m.names (take end m.input) (Ok parts) =
-        subst (λ (names : List (List ℕ)). ReadsHead names (take end m.input) (Ok parts)) (ap (λ (x : Machine). x.names) c.self.view_is)
-        (subst (λ (l : List ℕ). ReadsHead s.names (take end l) (told (take end l) (Ok h))) place c.in-Ok.ensures.verdict) in
+    subst (λ (names : List (List ℕ)). ReadsHead names (take end m.input) (Ok parts)) (ap (λ (x : Machine). x.names) c.self.view_is)
+    (subst (λ (l : List ℕ). ReadsHead s.names (take end l) (told (take end l) (Ok h))) place c.in-Ok.ensures.verdict) in
     let user_is : c.in_ok-self-inside.field-0 ≡ parts.user = c.in_ok-self-inside.ensures ∙ ap (λ (l : List ℕ). user_at (take end l) h.user.from h.user.to) place in
     let k : Machine = record { names = s.names; left = s.left; stage = s.stage; input = drop s.from s.input; body = c.new.result; user = c.in_ok-self-inside.field-0; runner = s.runner; call = s.call; output = s.output } in
     let leads : LeadsInBody k h.route h.close (drop end (drop s.from s.input)) c.read_body.new.self = c.in_ok-read_body.ensures.leads in
@@ -89,8 +89,8 @@ returns-clause-tracks c rest course future =
     let place = slice_is c.as_slice.result.now s.input m.input s.from c.as_slice.ensures input_is in
     let parts : Parts = record { route = h.route; framing = h.framing; close = h.close; user = user_at (take end m.input) h.user.from h.user.to } in
     let reads : ReadsHead m.names (take end m.input) (Ok parts) =
-        subst (λ (names : List (List ℕ)). ReadsHead names (take end m.input) (Ok parts)) (ap (λ (x : Machine). x.names) c.self.view_is)
-        (subst (λ (l : List ℕ). ReadsHead s.names (take end l) (told (take end l) (Ok h))) place c.in-Ok.ensures.verdict) in
+    subst (λ (names : List (List ℕ)). ReadsHead names (take end m.input) (Ok parts)) (ap (λ (x : Machine). x.names) c.self.view_is)
+    (subst (λ (l : List ℕ). ReadsHead s.names (take end l) (told (take end l) (Ok h))) place c.in-Ok.ensures.verdict) in
     let user_is : c.in_ok-self-inside.field-0 ≡ parts.user = c.in_ok-self-inside.ensures ∙ ap (λ (l : List ℕ). user_at (take end l) h.user.from h.user.to) place in
     let k : Machine = record { names = s.names; left = s.left; stage = s.stage; input = drop s.from s.input; body = c.new.result; user = c.in_ok-self-inside.field-0; runner = s.runner; call = s.call; output = s.output } in
     let tracks : TracksInBody k h.route h.close (drop end (drop s.from s.input)) c.read_body.new.self = c.in_ok-read_body.ensures.tracks in

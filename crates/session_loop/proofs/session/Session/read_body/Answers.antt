@@ -5,12 +5,12 @@ use Rattle.http_head.specs.declared.body.Fed.TheVariants.{More, Done, Bad}
 use Rattle.session_loop.specs.Sessions.{Machine}
 use Rattle.session_loop.specs.declared.stage.Stage.TheVariants.{InBody, Timing}
 use Rattle.session_loop.proofs.Tracking.{more_tracks, done_tracks, bad_tracks}
-use Rattle.session_loop.proofs.Reading.{more_leads, done_leads, bad_leads, feeds_at, place_behind}
+use Rattle.session_loop.proofs.ReadBytes.{more_leads, done_leads, bad_leads, feeds_at, place_behind}
 use Rattle.session_loop.proofs.Rooming.{more_in_body, done_in_body, refusing_room}
 use Rattle.session_loop.specs.Safety.{IsRouted}
 use Rattle.session_loop.proofs.Safe.{refusing_safe}
 use Rattle.session_loop.specs.Rooms.{body_room, body_steps}
-use Rattle.session_loop.proofs.reading.Session.read_body.Goals as goal
+use Rattle.session_loop.proofs.session.Session.read_body.Goals as goal
 
 pub overflow_add-from : goal.overflow_add-from
 overflow_add-from c =
@@ -44,8 +44,8 @@ returns-in-Done-clause-leads c =
     let m = c.args.self.now in
     let n : Machine = record { names = s.names; left = s.left; stage = Timing c.args.route c.args.close; input = drop (s.from + c.args.at + used) s.input; body = c.feed.new.self; user = s.user; runner = s.runner; call = s.call; output = s.output } in
     let feeds : Feeds m.body (drop c.args.at m.input) c.feed.new.self (Done used) =
-        feeds_at s.from c.args.at s.input s.body m c.feed.new.self (ap (λ (x : Machine). x.input) c.self.view_is) (ap (λ (x : Machine). x.body) c.self.view_is) (Done used)
-        (rw (c.as_slice.ensures, c.len-length.ensures, c.in-Done.is) at c.in_ok-feed.ensures.fed) in
+    feeds_at s.from c.args.at s.input s.body m c.feed.new.self (ap (λ (x : Machine). x.input) c.self.view_is) (ap (λ (x : Machine). x.body) c.self.view_is) (Done used)
+    (rw (c.as_slice.ensures, c.len-length.ensures, c.in-Done.is) at c.in_ok-feed.ensures.fed) in
     done_leads m n c.args.route c.args.close (drop c.args.at m.input) used
     (ap (λ (x : Machine). x.names) c.self.view_is) (ap (λ (x : Machine). x.left) c.self.view_is) (ap (λ (x : Machine). x.user) c.self.view_is) refl
     (place_behind s.input s.from c.args.at used m.input (ap (λ (x : Machine). x.input) c.self.view_is)) feeds.within feeds
@@ -57,8 +57,8 @@ returns-in-Done-clause-tracks c =
     let m = c.args.self.now in
     let n : Machine = record { names = s.names; left = s.left; stage = Timing c.args.route c.args.close; input = drop (s.from + c.args.at + used) s.input; body = c.feed.new.self; user = s.user; runner = s.runner; call = s.call; output = s.output } in
     let feeds : Feeds m.body (drop c.args.at m.input) c.feed.new.self (Done used) =
-        feeds_at s.from c.args.at s.input s.body m c.feed.new.self (ap (λ (x : Machine). x.input) c.self.view_is) (ap (λ (x : Machine). x.body) c.self.view_is) (Done used)
-        (rw (c.as_slice.ensures, c.len-length.ensures, c.in-Done.is) at c.in_ok-feed.ensures.fed) in
+    feeds_at s.from c.args.at s.input s.body m c.feed.new.self (ap (λ (x : Machine). x.input) c.self.view_is) (ap (λ (x : Machine). x.body) c.self.view_is) (Done used)
+    (rw (c.as_slice.ensures, c.len-length.ensures, c.in-Done.is) at c.in_ok-feed.ensures.fed) in
     done_tracks m n c.args.route c.args.close (drop c.args.at m.input) used
     (ap (λ (x : Machine). x.names) c.self.view_is) (ap (λ (x : Machine). x.left) c.self.view_is) (ap (λ (x : Machine). x.user) c.self.view_is) refl
     (place_behind s.input s.from c.args.at used m.input (ap (λ (x : Machine). x.input) c.self.view_is)) feeds.within feeds

@@ -14,7 +14,7 @@ use Rattle.collection_run.specs.Processes.{IsServable, AtMost}
 use Rattle.collection_run.proofs.Servable.{servable}
 use Rattle.session_loop.proofs.Safe.{refusing_safe}
 use Rattle.session_loop.specs.Rooms.{later}
-use Rattle.session_loop.proofs.running.Session.begin_envelope.Goals as goal
+use Rattle.session_loop.proofs.session.Session.begin_envelope.Goals as goal
 
 pub returns-in_ok-run_on-in-Ok-clause-leads : goal.returns-in_ok-run_on-in-Ok-clause-leads
 returns-in_ok-run_on-in-Ok-clause-leads c =
@@ -72,7 +72,7 @@ pub returns-in_ok-run_on-in-Ok-clause-falls : goal.returns-in_ok-run_on-in-Ok-cl
 returns-in_ok-run_on-in-Ok-clause-falls c =
     let m = c.args.self.now in
     let few : AtMost 4_096 (process_of c.in_ok-runner-in-Ok.runner) =
-        subst (AtMost 4_096) (sym c.in_ok-runner-in-Ok.ensures.1) (envelope_calls _ c.body.result.now c.in-Ok.collection c.in-Ok.ensures.reads) in
+    subst (AtMost 4_096) (sym c.in_ok-runner-in-Ok.ensures.1) (envelope_calls _ c.body.result.now c.in-Ok.collection c.in-Ok.ensures.reads) in
     timing_falls m c.run_on.new.self route.Cells c.args.close 4_098 c.requires (omega arith)
     (λ some. c.in_ok-run_on-in-Ok.ensures.room some 4_096 few)
 
@@ -98,7 +98,7 @@ pub returns-in_ok-run_on-in-Ok-clause-safe : goal.returns-in_ok-run_on-in-Ok-cla
 returns-in_ok-run_on-in-Ok-clause-safe c below =
     let s = c.self.inside in
     let served : IsServable (length s.names) (process_of c.in_ok-runner-in-Ok.runner) =
-        subst (IsServable (length s.names)) (sym c.in_ok-runner-in-Ok.ensures.1) (servable _ c.body.result.now c.in-Ok.collection below c.in-Ok.ensures.reads) in
+    subst (IsServable (length s.names)) (sym c.in_ok-runner-in-Ok.ensures.1) (servable _ c.body.result.now c.in-Ok.collection below c.in-Ok.ensures.reads) in
     c.in_ok-run_on-in-Ok.ensures.safe (subst (λ (names : List (List ℕ)). IsServable (length names) (process_of c.in_ok-runner-in-Ok.runner)) (ap (λ (x : Machine). x.names) c.self.view_is) served)
 
 pub returns-in_ok-refuse-in-Err-NotInGrammar-clause-safe : goal.returns-in_ok-refuse-in-Err-NotInGrammar-clause-safe

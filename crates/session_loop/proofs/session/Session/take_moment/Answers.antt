@@ -9,7 +9,7 @@ use Rattle.http_head.specs.declared.target.Route.TheVariants as route
 use Rattle.session_loop.specs.Safety.{IsRouted}
 use Rattle.session_loop.specs.declared.stage.Stage.TheVariants.{Timing}
 use Rattle.session_loop.proofs.Safe.{at_safe}
-use Rattle.session_loop.proofs.running.Session.take_moment.Goals as goal
+use Rattle.session_loop.proofs.session.Session.take_moment.Goals as goal
 
 pub returns-in-Front-clause-leads : goal.returns-in-Front-clause-leads
 returns-in-Front-clause-leads c =
@@ -71,6 +71,6 @@ pub returns-in_ok-user-in-File-clause-safe : goal.returns-in_ok-user-in-File-cla
 returns-in_ok-user-in-File-clause-safe c below safe =
     let at = sym (ap (λ (x : Machine). x.stage) c.self.view_is) ∙ c.in-Timing.is in (
       subst (λ (names : List (List ℕ)). IsRouted names (route.File c.in-File.doc)) (sym (ap (λ (x : Machine). x.names) c.self.view_is))
-      (subst (IsRouted c.args.self.now.names) c.in-File.is (at_safe (Timing c.in-Timing.route c.in-Timing.close) c.args.self.now at safe)),
+          (subst (IsRouted c.args.self.now.names) c.in-File.is (at_safe (Timing c.in-Timing.route c.in-Timing.close) c.args.self.now at safe)),
       record { moment = below; sub = tt },
     )
