@@ -1,7 +1,9 @@
 // Envelopes and files, by their calls.
-ghost use Rattle.std.specs.Prelude.{◌≡◌, ◌<◌, ◌≤◌, ◌^◌, ◌+◌, ℕ, length, OnOk, None};
+ghost use Rattle.std.specs.Prelude.{◌≡◌, ◌<◌, ◌≤◌, ◌^◌, ◌+◌, ℕ, List, length, Err, IfOk, OnOk, None, IsTrue};
 ghost use Rattle.doc_model.specs.Histories.{Fits};
 ghost use Rattle.doc_model.specs.declared.call.Call.{Call};
+ghost use Rattle.http_head.specs.Answers.{has_reason};
+ghost use Rattle.envelope_read.specs.Verdicts.{Reads, verdict};
 ghost use Rattle.collection_run.specs.Processes.{IsServable, AtMost};
 ghost use Rattle.collection_run.specs.Progress.{process_of};
 ghost use Rattle.session_loop.specs.Courses.{told, made};
@@ -17,6 +19,19 @@ use compact_values::{Copied, NoMemory};
 use doc_model::{Call, Sub, Submitted};
 use envelope_read::{EnvelopeFault, read_envelope};
 use http_head::{Media, Route};
+
+// The HTTP status that refuses an envelope, where it wasn't memory that was wanting.
+fn refusal_of(fault: EnvelopeFault) -> Result<u16, NoMemory>
+    ensures refused { IfOk result (λ status. (text : List ℕ) → Reads text (Err fault) → verdict text ≡ Err status) }
+    ensures reason { IfOk result (λ status. IsTrue (has_reason status)) }
+{
+    match fault {
+        EnvelopeFault::NotInGrammar { place: _ } => Ok(400),
+        EnvelopeFault::BadBase64 { sub: _ } => Ok(400),
+        EnvelopeFault::TooMany => Ok(413),
+        EnvelopeFault::NoMemory => Err(NoMemory),
+    }
+}
 
 impl Session {
     // Goes on to the next call of the envelope, or to its answer.
@@ -59,19 +74,11 @@ impl Session {
                 self.run_on(runner, close)?;
                 Ok(())
             }
-            Err(EnvelopeFault::NotInGrammar { place: _ }) => {
-                self.refuse(400)?;
+            Err(fault) => {
+                let status = refusal_of(fault)?;
+                self.refuse(status)?;
                 Ok(())
             }
-            Err(EnvelopeFault::BadBase64 { sub: _ }) => {
-                self.refuse(400)?;
-                Ok(())
-            }
-            Err(EnvelopeFault::TooMany) => {
-                self.refuse(413)?;
-                Ok(())
-            }
-            Err(EnvelopeFault::NoMemory) => Err(NoMemory),
         }
     }
 

@@ -32,42 +32,6 @@ returns-in_ok-run_on-in-Ok-clause-tracks c =
     (c.in_ok-runner-in-Ok.ensures.1 ∙ ap (λ (x : Machine). process (record { names = x.names; moment = c.args.moment; user = x.user }) c.in-Ok.collection) c.self.view_is)
     c.in_ok-run_on-in-Ok.ensures.runs
 
-pub returns-in_ok-refuse-in-Err-NotInGrammar-clause-leads : goal.returns-in_ok-refuse-in-Err-NotInGrammar-clause-leads
-returns-in_ok-refuse-in-Err-NotInGrammar-clause-leads c =
-    let m = c.args.self.now in
-    let body_is : m.body.body ≡ c.body.result.now = sym (c.body.ensures ∙ ap (λ (x : Machine). x.body.body) c.self.view_is) in
-    refusal_leads m c.refuse.new.self route.Cells c.args.moment 400 c.args.close c.requires (ap enveloped (ap verdict body_is ∙ rw c.in-Err-NotInGrammar.field-0-is at c.in-Err-NotInGrammar.ensures.reads)) c.in_ok-refuse-in-Err-NotInGrammar.ensures.is
-
-pub returns-in_ok-refuse-in-Err-NotInGrammar-clause-tracks : goal.returns-in_ok-refuse-in-Err-NotInGrammar-clause-tracks
-returns-in_ok-refuse-in-Err-NotInGrammar-clause-tracks c =
-    let m = c.args.self.now in
-    let body_is : m.body.body ≡ c.body.result.now = sym (c.body.ensures ∙ ap (λ (x : Machine). x.body.body) c.self.view_is) in
-    refusal_tracks m c.refuse.new.self route.Cells c.args.moment 400 c.args.close c.requires (ap enveloped (ap verdict body_is ∙ rw c.in-Err-NotInGrammar.field-0-is at c.in-Err-NotInGrammar.ensures.reads)) c.in_ok-refuse-in-Err-NotInGrammar.ensures.is
-
-pub returns-in_ok-refuse-in-Err-BadBase64-clause-leads : goal.returns-in_ok-refuse-in-Err-BadBase64-clause-leads
-returns-in_ok-refuse-in-Err-BadBase64-clause-leads c =
-    let m = c.args.self.now in
-    let body_is : m.body.body ≡ c.body.result.now = sym (c.body.ensures ∙ ap (λ (x : Machine). x.body.body) c.self.view_is) in
-    refusal_leads m c.refuse-in-Err-BadBase64.new.self route.Cells c.args.moment 400 c.args.close c.requires (ap enveloped (ap verdict body_is ∙ rw c.in-Err-BadBase64.field-0-is at c.in-Err-BadBase64.ensures.reads)) c.in_ok-refuse-in-Err-BadBase64.ensures.is
-
-pub returns-in_ok-refuse-in-Err-BadBase64-clause-tracks : goal.returns-in_ok-refuse-in-Err-BadBase64-clause-tracks
-returns-in_ok-refuse-in-Err-BadBase64-clause-tracks c =
-    let m = c.args.self.now in
-    let body_is : m.body.body ≡ c.body.result.now = sym (c.body.ensures ∙ ap (λ (x : Machine). x.body.body) c.self.view_is) in
-    refusal_tracks m c.refuse-in-Err-BadBase64.new.self route.Cells c.args.moment 400 c.args.close c.requires (ap enveloped (ap verdict body_is ∙ rw c.in-Err-BadBase64.field-0-is at c.in-Err-BadBase64.ensures.reads)) c.in_ok-refuse-in-Err-BadBase64.ensures.is
-
-pub returns-in_ok-refuse-in-Err-TooMany-clause-leads : goal.returns-in_ok-refuse-in-Err-TooMany-clause-leads
-returns-in_ok-refuse-in-Err-TooMany-clause-leads c =
-    let m = c.args.self.now in
-    let body_is : m.body.body ≡ c.body.result.now = sym (c.body.ensures ∙ ap (λ (x : Machine). x.body.body) c.self.view_is) in
-    refusal_leads m c.refuse-in-Err-TooMany.new.self route.Cells c.args.moment 413 c.args.close c.requires (ap enveloped (ap verdict body_is ∙ rw c.in-Err-TooMany.field-0-is at c.in-Err-TooMany.ensures.reads)) c.in_ok-refuse-in-Err-TooMany.ensures.is
-
-pub returns-in_ok-refuse-in-Err-TooMany-clause-tracks : goal.returns-in_ok-refuse-in-Err-TooMany-clause-tracks
-returns-in_ok-refuse-in-Err-TooMany-clause-tracks c =
-    let m = c.args.self.now in
-    let body_is : m.body.body ≡ c.body.result.now = sym (c.body.ensures ∙ ap (λ (x : Machine). x.body.body) c.self.view_is) in
-    refusal_tracks m c.refuse-in-Err-TooMany.new.self route.Cells c.args.moment 413 c.args.close c.requires (ap enveloped (ap verdict body_is ∙ rw c.in-Err-TooMany.field-0-is at c.in-Err-TooMany.ensures.reads)) c.in_ok-refuse-in-Err-TooMany.ensures.is
-
 pub returns-in_ok-run_on-in-Ok-clause-falls : goal.returns-in_ok-run_on-in-Ok-clause-falls
 returns-in_ok-run_on-in-Ok-clause-falls c =
     let m = c.args.self.now in
@@ -76,24 +40,6 @@ returns-in_ok-run_on-in-Ok-clause-falls c =
     timing_falls m c.run_on.new.self route.Cells c.args.close 4_098 c.requires (omega arith)
     (λ some. c.in_ok-run_on-in-Ok.ensures.room some 4_096 few)
 
-pub returns-in_ok-refuse-in-Err-NotInGrammar-clause-falls : goal.returns-in_ok-refuse-in-Err-NotInGrammar-clause-falls
-returns-in_ok-refuse-in-Err-NotInGrammar-clause-falls c =
-    let m = c.args.self.now in
-    timing_falls m c.refuse.new.self route.Cells c.args.close 1 c.requires (omega arith)
-    (λ some. refusing_room c.refuse.new.self 400 (1 + later m.left) c.in_ok-refuse-in-Err-NotInGrammar.ensures.is (omega arith))
-
-pub returns-in_ok-refuse-in-Err-BadBase64-clause-falls : goal.returns-in_ok-refuse-in-Err-BadBase64-clause-falls
-returns-in_ok-refuse-in-Err-BadBase64-clause-falls c =
-    let m = c.args.self.now in
-    timing_falls m c.refuse-in-Err-BadBase64.new.self route.Cells c.args.close 1 c.requires (omega arith)
-    (λ some. refusing_room c.refuse-in-Err-BadBase64.new.self 400 (1 + later m.left) c.in_ok-refuse-in-Err-BadBase64.ensures.is (omega arith))
-
-pub returns-in_ok-refuse-in-Err-TooMany-clause-falls : goal.returns-in_ok-refuse-in-Err-TooMany-clause-falls
-returns-in_ok-refuse-in-Err-TooMany-clause-falls c =
-    let m = c.args.self.now in
-    timing_falls m c.refuse-in-Err-TooMany.new.self route.Cells c.args.close 1 c.requires (omega arith)
-    (λ some. refusing_room c.refuse-in-Err-TooMany.new.self 413 (1 + later m.left) c.in_ok-refuse-in-Err-TooMany.ensures.is (omega arith))
-
 pub returns-in_ok-run_on-in-Ok-clause-safe : goal.returns-in_ok-run_on-in-Ok-clause-safe
 returns-in_ok-run_on-in-Ok-clause-safe c below =
     let s = c.self.inside in
@@ -101,11 +47,23 @@ returns-in_ok-run_on-in-Ok-clause-safe c below =
     subst (IsServable (length s.names)) (sym c.in_ok-runner-in-Ok.ensures.1) (servable _ c.body.result.now c.in-Ok.collection below c.in-Ok.ensures.reads) in
     c.in_ok-run_on-in-Ok.ensures.safe (subst (λ (names : List (List ℕ)). IsServable (length names) (process_of c.in_ok-runner-in-Ok.runner)) (ap (λ (x : Machine). x.names) c.self.view_is) served)
 
-pub returns-in_ok-refuse-in-Err-NotInGrammar-clause-safe : goal.returns-in_ok-refuse-in-Err-NotInGrammar-clause-safe
-returns-in_ok-refuse-in-Err-NotInGrammar-clause-safe c below = refusing_safe c.refuse.new.self 400 c.in_ok-refuse-in-Err-NotInGrammar.ensures.is
+pub returns-in_ok-refuse-in-Err-clause-leads : goal.returns-in_ok-refuse-in-Err-clause-leads
+returns-in_ok-refuse-in-Err-clause-leads c =
+    let m = c.args.self.now in
+    let body_is : m.body.body ≡ c.body.result.now = sym (c.body.ensures ∙ ap (λ (x : Machine). x.body.body) c.self.view_is) in
+    refusal_leads m c.refuse.new.self route.Cells c.args.moment c.in_ok-status-in-Err.status c.args.close c.requires (ap enveloped (ap verdict body_is ∙ c.in_ok-status-in-Err.ensures.refused c.body.result.now c.in-Err.ensures.reads)) c.in_ok-refuse-in-Err.ensures.is
 
-pub returns-in_ok-refuse-in-Err-BadBase64-clause-safe : goal.returns-in_ok-refuse-in-Err-BadBase64-clause-safe
-returns-in_ok-refuse-in-Err-BadBase64-clause-safe c below = refusing_safe c.refuse-in-Err-BadBase64.new.self 400 c.in_ok-refuse-in-Err-BadBase64.ensures.is
+pub returns-in_ok-refuse-in-Err-clause-tracks : goal.returns-in_ok-refuse-in-Err-clause-tracks
+returns-in_ok-refuse-in-Err-clause-tracks c =
+    let m = c.args.self.now in
+    let body_is : m.body.body ≡ c.body.result.now = sym (c.body.ensures ∙ ap (λ (x : Machine). x.body.body) c.self.view_is) in
+    refusal_tracks m c.refuse.new.self route.Cells c.args.moment c.in_ok-status-in-Err.status c.args.close c.requires (ap enveloped (ap verdict body_is ∙ c.in_ok-status-in-Err.ensures.refused c.body.result.now c.in-Err.ensures.reads)) c.in_ok-refuse-in-Err.ensures.is
 
-pub returns-in_ok-refuse-in-Err-TooMany-clause-safe : goal.returns-in_ok-refuse-in-Err-TooMany-clause-safe
-returns-in_ok-refuse-in-Err-TooMany-clause-safe c below = refusing_safe c.refuse-in-Err-TooMany.new.self 413 c.in_ok-refuse-in-Err-TooMany.ensures.is
+pub returns-in_ok-refuse-in-Err-clause-falls : goal.returns-in_ok-refuse-in-Err-clause-falls
+returns-in_ok-refuse-in-Err-clause-falls c =
+    let m = c.args.self.now in
+    timing_falls m c.refuse.new.self route.Cells c.args.close 1 c.requires (omega arith)
+    (λ some. refusing_room c.refuse.new.self c.in_ok-status-in-Err.status (1 + later m.left) c.in_ok-refuse-in-Err.ensures.is (omega arith))
+
+pub returns-in_ok-refuse-in-Err-clause-safe : goal.returns-in_ok-refuse-in-Err-clause-safe
+returns-in_ok-refuse-in-Err-clause-safe c below = refusing_safe c.refuse.new.self c.in_ok-status-in-Err.status c.in_ok-refuse-in-Err.ensures.is
