@@ -1,0 +1,14 @@
+mod Answered
+mod Telling
+mod Bodies
+mod ReadBytes
+mod RunCalls
+mod Tracking
+mod Heads
+mod Ending
+mod Users
+mod BodyRoom
+mod Rooming
+mod Safe
+mod OneCut
+mod SomeCut

@@ -1,0 +1,5 @@
+pub mod Cutting
+pub mod Courses
+pub mod Sessions
+pub mod Rooms
+pub mod Safety
