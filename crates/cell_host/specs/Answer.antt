@@ -2,6 +2,7 @@
 use Rattle.std.specs.Prelude.{◌≡◌, ◌≤◌, ◌<◌, ◌^◌, ℕ, List, length, IfSome, slice_index}
 use Rattle.std.specs.declared.option.Option.{Option}
 use Rattle.compact_values.specs.declared.guid.Guid.{Guid}
+use Rattle.http_head.specs.declared.body.TheConstants.{BODY_LIMIT}
 use Rattle.doc_model.specs.Apply.{empty_doc}
 use Rattle.doc_model.specs.Requests.{IsRequest}
 use Rattle.doc_model.specs.Responses.{response}
@@ -10,7 +11,7 @@ use Rattle.cell_host.specs.Serving.{answers_of}
 
 -- The input is a request and is not too long.
 pub record IsAccepted (input : List ℕ) : Type 0 where
-  pub fits : length input ≤ 25_165_824
+  pub fits : length input ≤ BODY_LIMIT
   pub request : (request : CellRequest) × IsRequest input request
 
 -- The clock, with these moments still to be told, tells this one next; 0 where none is left.

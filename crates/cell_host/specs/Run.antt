@@ -6,6 +6,7 @@ use Rattle.std.specs.Option.{option_map}
 use Rattle.std.specs.Io.KnownBytes.{Appends, Keeps, IsAtEnd}
 use Rattle.host_edge.specs.Causes.{Rose}
 use Rattle.host_edge.specs.Streams.{AppendsFront}
+use Rattle.http_head.specs.declared.body.TheConstants.{BODY_LIMIT}
 use Rattle.cell_host.specs.Answer.{IsAccepted, Answers}
 use Rattle.cell_host.specs.Input.{TakesFront}
 use Rattle.cell_host.specs.Status.{line_of}
@@ -64,7 +65,7 @@ AskedOnceAtMost before now = Asked 0 before now ⊎ Asked 1 before now
 -- the clock was asked once if the input, where it is told, is not too long, else not at all
 abbrev pub AskedByLength : Option (List ℕ) → Option (List ℕ) → Option (List ℕ) → Type 0
 AskedByLength None before now = AskedOnceAtMost before now
-AskedByLength (Some input) before now = (length input ≤ 25_165_824 → Asked 1 before now) × (25_165_824 < length input → Asked 0 before now)
+AskedByLength (Some input) before now = (length input ≤ BODY_LIMIT → Asked 1 before now) × (BODY_LIMIT < length input → Asked 0 before now)
 
 -- the clock was asked as often as a run asks that ends so: right after the input has ended, which the source had left
 abbrev pub Asks : Option Command → Status → Option (List ℕ) → Option (List ℕ) → Option (List ℕ) → Type 0

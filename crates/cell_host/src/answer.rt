@@ -20,7 +20,7 @@ use wire_requests::read_cell_request;
 use wire_responses::write_cell_response;
 
 /// The most bytes that an input may have.
-const LIMIT: usize = 25_165_824;
+const LIMIT: usize = http_head::BODY_LIMIT as usize;
 
 // The request that the input is. None where it is none.
 pub(crate) fn parse_request(alloc: Global, input: &[u8]) -> Result<Option<CellRequest>, NoMemory>

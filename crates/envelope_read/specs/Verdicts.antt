@@ -5,6 +5,7 @@ use Rattle.std.specs.declared.option.Option.TheVariants.{Some, None}
 use Rattle.envelope_grammar.specs.Front.{text_at}
 use Rattle.envelope_grammar.specs.declared.raw.RawRequest.{RawRequest}
 use Rattle.envelope_grammar.specs.declared.raw.RawSub.{RawSub}
+use Rattle.envelope_read.specs.declared.read.TheConstants.{MOST_SUBS}
 use Rattle.envelope_read.specs.Asked.{sub_of}
 use Rattle.envelope_read.specs.Lookup.{text_of}
 use Rattle.envelope_read.specs.declared.collection.Ask.{Ask}
@@ -15,7 +16,7 @@ use Rattle.envelope_read.specs.declared.fault.EnvelopeFault.TheVariants.{NotInGr
 
 -- subrequests of an envelope
 abbrev pub most_subs : ℕ
-most_subs = 64
+most_subs = MOST_SUBS
 
 unfoldable pub sub_count : List RawRequest → ℕ
 sub_count [] = 0

@@ -3,13 +3,13 @@ ghost use Rattle.std.specs.Prelude.{◌≡◌, ◌<◌, ◌≤◌, ◌^◌, ℕ,
 ghost use Rattle.doc_model.specs.Sound.{Valid};
 ghost use Rattle.doc_model.specs.declared.call.Call.{Call};
 ghost use Rattle.envelope_read.specs.Callable.{IsCallable, AreCallable, AreCellsWithin, subs_of};
-ghost use Rattle.envelope_read.specs.Verdicts.{verdict};
+ghost use Rattle.envelope_read.specs.Verdicts.{most_subs, verdict};
 ghost use Rattle.envelope_read.specs.declared.collection.Collection.{Collection};
 ghost use Rattle.envelope_read.specs.declared.collection.What.TheVariants.{Plain};
 
 /// An envelope that is read has at most 64 subrequests.
 pub fn few_subrequests()
-    ensures { (text : List ℕ) (collection : Collection) → verdict text ≡ Ok collection → subs_of collection.requests ≤ 64 }
+    ensures { (text : List ℕ) (collection : Collection) → verdict text ≡ Ok collection → subs_of collection.requests ≤ most_subs }
 {}
 
 /// What an envelope asks for plainly may be asked of a document, at every moment and by every user that a call may have.

@@ -29,4 +29,4 @@ mod read;
 pub use collection::{Ask, Asks, Collection, Depend, DependWord, SubAsk, SubAsks, What};
 pub use fault::EnvelopeFault;
 pub use outcome::{CellWord, Outcome, Outcomes, Skip};
-pub use read::read_envelope;
+pub use read::{MOST_SUBS, read_envelope};

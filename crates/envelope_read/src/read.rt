@@ -10,10 +10,10 @@ use compact_values::{NoMemory, Seq};
 use envelope_grammar::{RawRequest, RawSub, ReadFault, read_requests};
 use std::alloc::Global;
 
-/// Subrequests of an envelope.
-const MOST_SUBS: usize = 64;
+/// How many subrequests an envelope may have.
+pub const MOST_SUBS: usize = 64;
 
-/// Whether there are more than 64 subrequests.
+/// Whether there are more than `MOST_SUBS` subrequests.
 fn are_too_many(requests: &[RawRequest]) -> bool
     ensures { result ≡ nat_lt most_subs (sub_count requests.now) }
 {
@@ -34,7 +34,7 @@ fn subs_from(
     first: usize,
     subs: &[RawSub],
 ) -> Result<Result<SubAsks, usize>, NoMemory>
-    requires { first + length subs.now ≤ 64 }
+    requires { first + length subs.now ≤ most_subs }
     ensures { IfOk result (λ found. found ≡ subs_from first subs.now) }
 {
     let mut asks = Seq::new(alloc);
@@ -59,7 +59,7 @@ fn ask_with(alloc: Global, request: &RawRequest, subs: SubAsks) -> Result<Ask, N
 
 /// What the Requests ask, or the number of the first subrequest whose base64 is refused.
 fn asks_of(alloc: Global, requests: &[RawRequest]) -> Result<Result<Asks, usize>, NoMemory>
-    requires { sub_count requests.now ≤ 64 }
+    requires { sub_count requests.now ≤ most_subs }
     ensures { IfOk result (λ found. found ≡ asks_from 0 requests.now) }
 {
     let mut asks = Seq::new(alloc);

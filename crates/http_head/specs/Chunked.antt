@@ -2,6 +2,7 @@
 use Rattle.std.specs.Prelude.{◌≡◌, ℕ, ◌+◌, ◌<◌, ◌≤◌, List, [], ◌∷◌, ◌++◌, length, Bool, not, ◌==◌, IsTrue, Some}
 use Rattle.std.specs.List.{list_all}
 use Rattle.httparse.specs.Ascii.{line_feed, carriage_return}
+use Rattle.http_head.specs.declared.body.TheConstants.{BODY_LIMIT}
 use Rattle.http_head.specs.Bodies.{IsSizeOf}
 
 abbrev pub is_not_feed : ℕ → Bool
@@ -34,7 +35,7 @@ held (chunk ∷ chunks) = chunk.bytes ++ held chunks
 abbrev pub AreChunks : ℕ → List OneChunk → Type 0
 AreChunks before [] = Unit {0}
 AreChunks before (chunk ∷ chunks) = IsLine chunk.line (length chunk.bytes) × (0 < length chunk.bytes)
-    × (before + length chunk.bytes ≤ 25_165_824) × AreChunks (before + length chunk.bytes) chunks
+    × (before + length chunk.bytes ≤ BODY_LIMIT) × AreChunks (before + length chunk.bytes) chunks
 
 -- the bytes are chunks, the last line and CR LF, and this is the body
 pub record IsChunked (bytes body : List ℕ) : Type 0 where
