@@ -1,14 +1,14 @@
 -- What is behind pieces that stand one behind the other.
-use Rattle.std.proofs.Common.{◌≡◌, ◌≢◌, ◌↔◌, ℕ, ◌+◌, ◌<◌, Bool, false, List, [], ◌∷◌, ◌++◌, length, get_or, take, drop, Option, Some, None, Result, Ok, Err, Bor, refl, sym, ap, ◌∙◌, append_assoc, arith}
+use Rattle.std.proofs.Common.{◌≡◌, ◌≢◌, ◌↔◌, ℕ, ◌+◌, ◌<◌, Bool, false, true, List, [], ◌∷◌, ◌++◌, length, get_or, take, drop, Option, Some, None, Result, Ok, Err, Bor, refl, sym, ap, ◌∙◌, append_assoc, arith}
 use Rattle.std.specs.List.{flat_map}
 use Rattle.std.proofs.lemmas.Grind.{flat_map-append}
 use Rattle.std.proofs.lemmas.Bool.Decides.{nat_tests}
 use Rattle.std.proofs.lemmas.List.{append-nil, drop_more, take-append-drop}
-use Rattle.doc_model.specs.WrittenElements.{size_if_any, declaration_bytes, declarations_bytes, datas_bytes, body_bytes, element_bytes}
+use Rattle.doc_model.specs.WrittenElements.{size_if_any, declaration_bytes, data_fields, data_bytes, declarations_bytes, datas_bytes, blob_bytes, body_bytes, element_bytes}
 use Rattle.doc_model.specs.declared.element.Element.{Element}
 use Rattle.doc_model.specs.declared.element.Body.{Body}
-use Rattle.doc_model.specs.declared.element.Body.TheVariants.{Group}
-use Rattle.stream_objects.specs.Headers.{written_end}
+use Rattle.doc_model.specs.declared.element.Body.TheVariants.{Group, Blob}
+use Rattle.stream_objects.specs.Headers.{written_start, written_end}
 use Rattle.change_record.specs.Changes.{put_element_bytes, head_of, put_bytes, front_of, asked_bytes, change_bytes}
 use Rattle.change_record.specs.Rows as rows
 use Rattle.doc_model.specs.declared.call.Call.{Call}
@@ -17,15 +17,17 @@ use Rattle.doc_model.specs.declared.call.Sub.{Sub}
 use Rattle.doc_model.specs.declared.call.Sub.TheVariants as sub
 use Rattle.compact_values.specs.Compact as compacts
 use Rattle.compact_values.specs.Ids as ids
+use Rattle.compact_values.specs.Items.{item, array}
 use Rattle.compact_values.specs.declared.ids.ExGuid.{ExGuid}
-use Rattle.stream_objects.specs.Written.{simple_object}
+use Rattle.compact_values.specs.declared.ids.Serial.TheVariants.{Null}
+use Rattle.stream_objects.specs.Written.{simple_object, started}
 use Rattle.doc_model.specs.declared.element.Object.{Object}
-use Rattle.doc_model.specs.declared.element.Content.TheVariants.{Apart}
+use Rattle.doc_model.specs.declared.element.Content.TheVariants.{Inline, Apart}
 use Rattle.wire_kinds.specs.Kind.{◌▹◌, exguid, compact}
 use Rattle.wire_kinds.specs.Row.{row, row_bytes}
 use Rattle.std.specs.Prelude.{◌==◌, option_map, IfOk, IsTrue}
 use Rattle.std.specs.Option.{MatchOption}
-use Rattle.change_record.specs.Behind.{IsBehind, group_head}
+use Rattle.change_record.specs.Behind.{IsBehind, element_head, data_front, blob_front}
 
 -- what is behind, where there is something
 abbrev pub left : Option (Bor (List ℕ)) → Option (List ℕ)
@@ -94,9 +96,29 @@ apart_bytes o blob content some =
 -- ---- elements
 
 -- the element of a group: its head, its objects, its end
-pub group_parts : (id : ExGuid) (objects : List Object) → put_element_bytes (record { id = id; body = Group objects }) ≡ group_head id ++ ((declarations_bytes objects ++ datas_bytes objects) ++ written_end 0x01)
-unfolding put_element_bytes element_bytes body_bytes group_head
+pub group_parts : (id : ExGuid) (objects : List Object) → put_element_bytes (record { id = id; body = Group objects }) ≡ element_head id 5 ++ ((declarations_bytes objects ++ datas_bytes objects) ++ written_end 0x01)
+unfolding put_element_bytes element_bytes body_bytes element_head
 group_parts id objects = refl
+
+-- the element of a blob: what is before the bytes, the bytes, its end
+pub blob_parts : (id : ExGuid) (bytes : List ℕ) → put_element_bytes (record { id = id; body = Blob bytes }) ≡ blob_front id bytes ++ (bytes ++ written_end 0x01)
+unfolding put_element_bytes element_bytes body_bytes blob_bytes started blob_front element_head
+blob_parts id bytes =
+    let head = element_head id 10 in
+    let begun = written_start 0x02 false (length (item bytes)) in
+    let size = compacts.compact (length bytes) in
+    let last = written_end 0x01 in
+    let inner : (begun ++ (size ++ bytes)) ++ last ≡ (begun ++ size) ++ (bytes ++ last) = ap (λ (l : List ℕ). l ++ last) (sym (append_assoc begun size bytes)) ∙ append_assoc (begun ++ size) bytes last in
+    ap (λ (l : List ℕ). head ++ l) inner ∙ sym (append_assoc head (begun ++ size) (bytes ++ last))
+
+-- the data of an object with its bytes: what is before the bytes, and the bytes
+pub data_parts : (o : Object) (bytes : List ℕ) → o.content ≡ Inline bytes → data_bytes o ≡ data_front o bytes ++ bytes
+unfolding data_bytes started data_front
+data_parts o bytes is =
+    let begun = written_start 0x16 false (length (data_fields o (Inline bytes))) in
+    let lists = array ids.exguid o.references ++ array ids.cell_id o.cells in
+    let size = compacts.compact (length bytes) in
+    rw is (ap (λ (l : List ℕ). begun ++ l) (sym (append_assoc lists size bytes)) ∙ sym (append_assoc begun (lists ++ size) bytes))
 
 pub of_group : (e : Element) (objects : List Object) → e.body ≡ Group objects → ◌≡◌ {A = Element} (record { id = e.id; body = Group objects }) e
 of_group e objects is = ap (λ (b : Body). record { id = e.id; body = b }) (sym is)
@@ -126,3 +148,6 @@ unfolding change_bytes asked_bytes put_bytes
 upload_parts call p is =
     ap (λ (s : Sub). rows.front.bytes (front_of call) ++ asked_bytes s) is
     ∙ sym (append_assoc (rows.front.bytes (front_of call)) (rows.head.bytes (head_of p)) (flat_map put_element_bytes p.elements))
+
+pub of_blob : (e : Element) (bytes : List ℕ) → e.body ≡ Blob bytes → ◌≡◌ {A = Element} (record { id = e.id; body = Blob bytes }) e
+of_blob e bytes is = ap (λ (b : Body). record { id = e.id; body = b }) (sym is)
