@@ -9,6 +9,6 @@ mod Ending
 mod Users
 mod BodyRoom
 mod Rooming
-mod Safe
+pub mod Safe
 mod OneCut
 mod SomeCut

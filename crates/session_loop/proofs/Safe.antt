@@ -2,7 +2,10 @@
 use Rattle.std.proofs.Common.{◌≡◌, ℕ, ◌<◌, List, length, Option, Some, None, Bool, sym, subst}
 use Rattle.std.specs.Prelude.{IfSome}
 use Rattle.doc_model.specs.Histories.{Fits}
-use Rattle.doc_model.specs.Sound.{Valid}
+use Rattle.doc_model.specs.Laws.{KeepsSound}
+use Rattle.doc_model.specs.Sound.{Sound, Valid}
+use Rattle.doc_model.specs.declared.reply.Submitted.TheVariants.{Answered, DiskFault, JournalFull, NoMemory}
+use Rattle.session_loop.specs.Documents.{Kept, IsSubmitted, IsLone}
 use Rattle.doc_model.specs.declared.call.Call.{Call}
 use Rattle.doc_model.specs.declared.reply.Submitted.{Submitted}
 use Rattle.http_head.specs.declared.answer.Media.{Media}
@@ -77,3 +80,17 @@ within_at (Over end) m doc wants settled safe = absurd cc
 
 pub wanted_within : (m : Machine) (doc : ℕ) → WantsIs m.stage (Submit doc) → IsSettled m → IsSafe m → doc < length m.names
 wanted_within m doc wants settled safe = within_at m.stage m doc wants settled safe
+
+-- ---- a document in memory
+
+pub fits_of : (k n : Kept) (call : Call) (r : Submitted) → Sound k.doc → IsLone r → IsSubmitted k call r n → Fits call r
+fits_of k n call (Answered reply) sound lone is = (k.doc, sound, sym is.0)
+fits_of k n call DiskFault sound lone is = absurd lone
+fits_of k n call JournalFull sound lone is = absurd lone
+fits_of k n call NoMemory sound lone is = tt
+
+pub sound_of : (k n : Kept) (call : Call) (r : Submitted) → KeepsSound → Sound k.doc → Valid call → IsSubmitted k call r n → Sound n.doc
+sound_of k n call (Answered reply) keeps sound valid is = subst (λ (x : Kept). Sound x.doc) (sym is.1) (keeps k.doc call sound valid)
+sound_of k n call DiskFault keeps sound valid is = subst (λ (x : Kept). Sound x.doc) (sym is) sound
+sound_of k n call JournalFull keeps sound valid is = subst (λ (x : Kept). Sound x.doc) (sym is) sound
+sound_of k n call NoMemory keeps sound valid is = subst (λ (x : Kept). Sound x.doc) (sym is) sound

@@ -3,3 +3,4 @@ pub mod Courses
 pub mod Sessions
 pub mod Rooms
 pub mod Safety
+pub mod Documents

@@ -8,10 +8,12 @@
 //! - `running`: envelopes and files, by their calls
 //! - `answering`: answers and refusals
 //! - `user`: the user of a request
+//! - `documents`: documents that are kept in memory alone
 //! - `laws`: what holds of the definitions themselves
 #![tactic(auto)]
 
 mod answering;
+mod documents;
 mod input;
 pub mod laws;
 mod reading;
@@ -21,6 +23,7 @@ mod stage;
 mod user;
 mod want;
 
+pub use documents::CoreDoc;
 pub use session::{REQUEST_LIMIT, Session};
 pub use stage::Stage;
 pub use want::{SessionEnd, Want};

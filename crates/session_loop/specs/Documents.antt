@@ -1,0 +1,27 @@
+-- Documents that are kept in memory alone, and what their calls do with them.
+use Rattle.std.specs.Prelude.{◌≡◌, ℕ, ◌+◌, if◌then◌else◌}
+use Rattle.doc_model.specs.Apply.{apply}
+use Rattle.doc_model.specs.Turns.{Turn}
+use Rattle.doc_model.specs.declared.call.Call.{Call}
+use Rattle.doc_model.specs.declared.doc.Doc.{Doc}
+use Rattle.doc_model.specs.declared.reply.Submitted.{Submitted}
+use Rattle.doc_model.specs.declared.reply.Submitted.TheVariants.{Answered, NoMemory}
+
+-- a document, and the number of its changes
+pub record Kept : Type 0 where
+  pub doc : Doc
+  pub front : ℕ
+
+abbrev pub changed : Kept → Turn → Kept
+changed k turn = record { doc = turn.doc; front = if turn.moved then k.front + 1 else k.front }
+
+-- A call is answered by its document as it then is; or it isn't answered, and the document is as it was.
+abbrev pub IsSubmitted : Kept → Call → Submitted → Kept → Type 0
+IsSubmitted k call (Answered reply) n = (reply ≡ (apply k.doc call).reply) × (n ≡ changed k (apply k.doc call))
+IsSubmitted k call submitted n = n ≡ k
+
+-- a document in memory has no disk that could fail
+abbrev pub IsLone : Submitted → Type 0
+IsLone (Answered reply) = Unit {0}
+IsLone NoMemory = Unit {0}
+IsLone submitted = ⊥
