@@ -36,7 +36,7 @@ returns-then-contains-clause-closed c =
 pub loop-left-preserved : goal.loop-left-preserved
 loop-left-preserved c =
     walk-step (listed c.args.catalog.now) c.args.revisions.now.maps.now c.loop-left.named c.push.new.self c.loop-left.left c.loop-left.at c.base-at.result
-    c.in-Id.guid c.in-Id.value _ (omega arith) c.in-Id.is (sym c.contains.ensures ∙ c.if-contains.false) c.in_ok-push-in-Id.ensures c.base-at.ensures c.loop-left.invariant
+    c.in-Id.guid c.in-Id.value _ (omega arith) c.in-Id.is (sym c.contains.ensures ∙ c.if-contains.false) c.in_ok-push-in-Id.ensures.ok c.base-at.ensures c.loop-left.invariant
 
 -- where no step is left, all is named
 pub returns-clause-named : goal.returns-clause-named
