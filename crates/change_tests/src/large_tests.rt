@@ -3,8 +3,7 @@
 use change_record::{can_move, read_change, write_change};
 use compact_values::{ExGuid, Guid, NoMemory, Octets, Seq, Text};
 use data_elements::{read_package, write_package};
-use doc_model::{Body, Call, Element, Elements, NumberedElement, Put, Sub};
-use file_nodes::chunk;
+use doc_model::{Body, Call, Content, Element, Elements, NumberedElement, Object, Put, Sub};
 use std::alloc::Global;
 use std::test::Fail;
 use stream_objects::read_tree;
@@ -16,8 +15,12 @@ const MANY: u32 = 8_192;
 
 const SMALL: &[u8] = &[1, 2, 3];
 
-/// The length of the file, and of what it is made of.
+/// The length of the file, how many leaves it has, and of what pieces each is made.
 const LENGTH: usize = 16_777_216;
+
+const LEAVES: u32 = 256;
+
+const PIECES: usize = 16;
 
 const PIECE: &[u8; 4_096] = &[7; 4_096];
 
@@ -42,13 +45,39 @@ fn many(alloc: Global) -> Result<Elements, NoMemory> {
     Ok(elements)
 }
 
-fn large(alloc: Global) -> Result<Elements, NoMemory> {
-    let mut file = Octets::new(alloc);
-    for _ in 0..LENGTH / PIECE.len() {
-        file.extend_from_slice(PIECE)?;
+// An object of the file: its bytes.
+fn leaf(alloc: Global, value: u32) -> Result<Object, NoMemory> {
+    let mut bytes = Octets::new(alloc);
+    for _ in 0..PIECES {
+        bytes.extend_from_slice(PIECE)?;
     }
-    let file = file.as_slice().get(..LENGTH).unwrap_or(&[]);
-    Ok(chunk(alloc, file, CLIENT, 1)?.elements)
+    Ok(Object {
+        id: ExGuid::Id {
+            guid: CLIENT,
+            value,
+        },
+        partition: 1,
+        size: bytes.len() as u64,
+        references: Seq::new(alloc),
+        cells: Seq::new(alloc),
+        content: Content::Inline { bytes },
+    })
+}
+
+// A group with the leaves of the file, as clients cut it.
+fn large(alloc: Global) -> Result<Elements, NoMemory> {
+    let mut objects = Seq::new(alloc);
+    for value in 0..LEAVES {
+        objects.push(leaf(alloc, value)?)?;
+    }
+    let mut elements = Seq::new(alloc);
+    let id = ExGuid::Id {
+        guid: CLIENT,
+        value: LEAVES,
+    };
+    let body = Body::Group { objects };
+    elements.push(Element { id, body })?;
+    Ok(elements)
 }
 
 fn elements(alloc: Global, which: Which) -> Result<Elements, NoMemory> {
