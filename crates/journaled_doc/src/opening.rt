@@ -9,6 +9,7 @@ ghost use Rattle.cell_journal.specs.Readings.{HasGiven};
 ghost use Rattle.change_record.specs.Changes.{IsChange};
 ghost use Rattle.change_record.specs.FittingCalls.{FitsCall};
 ghost use Rattle.doc_model.specs.Apply.{apply, empty_doc};
+ghost use Rattle.doc_model.specs.Sound.{Sound};
 ghost use Rattle.doc_model.specs.declared.call.Call.{Call};
 ghost use Rattle.journaled_doc.specs.Eras.{Event, Created, NotOpened, Keeps};
 ghost use Rattle.journaled_doc.specs.Docs.{history, IsJournaled, InEra, IsNew};
@@ -22,6 +23,7 @@ use cell_journal::{Got, Journal, JournalFault, Reading};
 use change_record::{ChangeFault, read_change};
 use compact_values::{Guid, NoMemory, Octets};
 use doc_model::Core;
+use doc_model::laws::every_call_keeps_sound;
 use doc_story::Story;
 use host_edge::Disk;
 use std::alloc::Global;
@@ -133,6 +135,7 @@ impl<C: Core, D: Disk> JournaledDoc<C, D> {
         requires document { C.doc core ≡ empty_doc (C.doc core).guid }
         requires empty { (c : List ℕ) → D.may_leave disk c → c ≡ [] }
         ensures document { IfOk result (λ j. (C.doc j.core ≡ C.doc core) × (history j ≡ [])) }
+        ensures sound { IfOk result (λ j. Sound (C.doc j.core)) }
         ensures journaled { IfOk result (IsJournaled C.doc D.may_leave) }
         ensures era { IfOk result (λ j. InEra C.doc D.may_leave j (Created ∷ [])) }
         ensures settled { IfOk result (λ j. IsTrue j.kept.journal.settled) }
@@ -151,6 +154,7 @@ impl<C: Core, D: Disk> JournaledDoc<C, D> {
         };
         let guid = core.guid();
         guid_fits(guid);
+        every_call_keeps_sound();
         match Journal::create(disk, guid) {
             Ok(journal) => Ok(opened(core, journal, story)),
             Err((disk, fault)) => Err((disk, open_fault(fault))),
@@ -168,6 +172,7 @@ impl<C: Core, D: Disk> JournaledDoc<C, D> {
         requires given { HasGiven D.seen D.may_leave reading [] }
         requires document { C.doc core ≡ empty_doc reading.guid }
         ensures document { IfOk result (IsReopened C.doc D.seen D.may_leave reading.disk) }
+        ensures sound { IfOk result (λ j. Sound (C.doc j.core)) }
         ensures history { IfOk result (λ j. history j ≡ []) }
         ensures journaled { IfOk result (IsJournaled C.doc D.may_leave) }
         ensures guid { IfOk result (λ j. j.kept.journal.guid ≡ reading.guid) }
