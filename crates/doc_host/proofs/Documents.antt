@@ -1,10 +1,10 @@
 -- What a document that is kept in a journal owes to a host, from what its calls promise.
 use Rattle.std.proofs.Common.{◌≡◌, ℕ, ◌+◌, ◌<◌, ◌≤◌, Bool, true, false, List, [], ◌∷◌, ◌++◌, length, Option, Some, None, inl, inr, refl, sym, ap, subst, ◌∙◌, arith}
-use Rattle.std.specs.Coded.{Coded-set, coded_ℕ}
+use Rattle.std.specs.Coded.{Coded-set, coded_ℕ, coded_bool, ×_prop, Unit-prop}
 use Rattle.std.specs.List.{All}
 use Rattle.std.specs.Prelude.{map}
 use Rattle.std.specs.declared.snapshot.Snapshot.{Snapshot}
-use Rattle.std.proofs.Math.Logic.{∥∥₁_elim, ∥∥₁_map}
+use Rattle.std.proofs.Math.Logic.{∥∥₁_elim}
 use Rattle.std.proofs.lemmas.List.{append-nil}
 use Rattle.std.proofs.lemmas.List.Elements.{All-push}
 use Rattle.turn_board.specs.declared.kept.Last.{Last}
@@ -35,6 +35,10 @@ use Rattle.doc_host.specs.Submits.{turn_after, HasRoom, HasSubmitted}
 
 pub doc-set : (a b : Doc) → IsProp (a ≡ b)
 doc-set a b = Coded-set doc_row.coded a b
+
+pub each-moves-prop : (doc : Doc) (h : History) → IsProp (EachMoves doc h)
+each-moves-prop doc [] = Unit-prop
+each-moves-prop doc (x ∷ xs) = ×_prop (Coded-set coded_bool _ _) (each-moves-prop (apply doc x.1).doc xs)
 
 -- the calls of a history with what it gains
 pub valid_gained : (h : History) (n : ℕ) (call : Call) (s : Submitted) (m : Bool) → All (λ item. Valid item.1) h → Valid call → All (λ item. Valid item.1) (h ++ gained n call s m)
@@ -115,6 +119,9 @@ module _ {C D : Type 0} (doc : C → Doc) (may_leave : D → List ℕ → Type 0
     pub count_is : j.kept.journal.count ≡ j.before + length (history j)
     count_is = ∥∥₁_elim is (Coded-set coded_ℕ _ _) (λ x. x.count)
 
+    pub each_moves : EachMoves (doc j.first.value) (history j)
+    each_moves = ∥∥₁_elim is (each-moves-prop _ _) (λ x. x.moves)
+
     pub submitted : (k : JournaledDoc C D) (caller : ℕ) (call : Call) (s : Submitted) (before after : ℕ) → All (λ item. Valid item.1) (history j) → MovesByKind
         → IsAnswered (apply (doc j.core) call) (doc j.core) (doc k.core) s → HasCause before after (apply (doc j.core) call).moved j.kept.journal.count s
         → ((apply (doc j.core) call).moved ≡ true → most_bodies ≤ j.kept.journal.count → MayBeFull s) → history k ≡ history j ++ gained caller call s (apply (doc j.core) call).moved
@@ -128,6 +135,10 @@ module _ {C D : Type 0} (doc : C → Doc) (may_leave : D → List ℕ → Type 0
         (subst (λ (x : Doc). (apply x call).moved ≡ true → most_bodies ≤ j.kept.journal.count → MayBeFull s) d full)
         (subst (λ (x : Doc). history k ≡ history j ++ gained caller call s (apply x call).moved) d gains)
         (subst (λ (x : Doc). IsLast caller call s before after (apply x call).moved (told k.story)) d last)
+
+  pub same_opening : (j k : JournaledDoc C D) → SameOpening j k → opening_of k ≡ opening_of j
+  same_opening j k same =
+      ap (λ (x : Snapshot C). record { doc = doc x.value; bodies = k.before }) same.first ∙ ap (λ (n : ℕ). record { doc = doc j.first.value; bodies = n }) same.before
 
   -- a document that differs in its last call alone
   pub still_journaled : (j k : JournaledDoc C D) → k.core ≡ j.core → k.kept ≡ j.kept → SameOpening j k → history k ≡ history j → IsJournaled doc may_leave j → IsJournaled doc may_leave k

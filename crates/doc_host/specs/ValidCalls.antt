@@ -1,5 +1,5 @@
 -- That the calls of a history may all be made is one fact, with one proof at most.
-use Rattle.std.specs.Prelude.{◌×◌, ℕ, ◌≤◌, List, Option, Some, None, IfSome}
+use Rattle.std.specs.Prelude.{ℕ, ◌≤◌, Option, Some, None, IfSome}
 use Rattle.std.specs.List.{All}
 use Rattle.std.specs.Coded.{×_prop, Unit-prop, le_prop}
 use Rattle.std.proofs.Props.{props}

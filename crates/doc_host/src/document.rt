@@ -1,11 +1,12 @@
 // A document that is kept in a journal, as a host takes it.
-ghost use Rattle.std.specs.Prelude.{◌≡◌, ∥◌∥₁};
+ghost use Rattle.std.specs.Prelude.{◌≡◌};
 ghost use Rattle.std.specs.List.{All};
 ghost use Rattle.doc_model.specs.Sound.{Valid};
 ghost use Rattle.journaled_doc.specs.Docs.{history, IsJournaled};
 ghost use Rattle.doc_host.specs.ValidCalls.{valid-calls-prop};
 
 use crate::journaled::{Journaled, Opening};
+use doc_model::history_laws::changes_are_of_their_kinds;
 use doc_model::{Call, Core, Submitted};
 use host_edge::Disk;
 use journaled_doc::JournaledDoc;
@@ -22,6 +23,7 @@ pub struct Document<C: Core, D: Disk> {
 
 impl<C: Core, D: Disk> Document<C, D> {
     ghost use Rattle.std.specs.Prelude.{◌≡◌, []};
+    ghost use Rattle.doc_model.specs.Histories.{EachMoves};
     ghost use Rattle.journaled_doc.specs.Docs.{history, IsJournaled};
 
     /// Takes a document that was opened just now.
@@ -33,17 +35,18 @@ impl<C: Core, D: Disk> Document<C, D> {
         Document { doc }
     }
 
-    /// The document and its journal.
+    /// The document with its journal. Each call of its history moved where it stands.
     pub fn into_journaled(self) -> JournaledDoc<C, D>
         ensures same { result ≡ self.doc }
         ensures journaled { ∥ IsJournaled C.doc D.may_leave result ∥₁ }
+        ensures moves { EachMoves (C.doc result.first.value) (history result) }
     {
         let Document { doc } = self;
         doc
     }
 }
 
-impl<C: Core, D: Disk> Journaled for Document<C, D> {
+impl<C: Core, D: Disk + Drop> Journaled for Document<C, D> {
     ghost use Rattle.doc_story.specs.Telling.{told};
     ghost use Rattle.journaled_doc.specs.Docs.{history};
     ghost use Rattle.doc_host.specs.Documents.{last_of};
@@ -57,6 +60,7 @@ impl<C: Core, D: Disk> Journaled for Document<C, D> {
     ghost faults = { λ d. D.faults d.doc.kept.journal.disk };
 
     fn submit(&mut self, alloc: Global, caller: u32, call: &Call) -> Submitted {
+        changes_are_of_their_kinds();
         self.doc.submit(alloc, caller, call)
     }
 

@@ -12,7 +12,7 @@ use std::alloc::Global;
 use std::sync::{Mutex, Wait};
 use turn_board::{Board, Busy};
 
-/// Documents that threads share, each behind a board.
+/// Documents that threads share, each behind a board: callers of different documents don't wait for one another.
 #[derive(Drop)]
 pub struct Host<J: Journaled> {
     pub(crate) boards: Vec<Board<Shared<J>>>,
@@ -28,7 +28,9 @@ impl<J: Journaled> Host<J> {
     ghost use Rattle.doc_host.specs.Passes.{At, turns_at, free_in, whole_in, joined, Each2, HasClosed};
     ghost use Rattle.doc_host.specs.Views.{views, openings, IsPassOf};
 
-    /// Puts each document behind a board. The first pass has number 0, and all other numbers to give away.
+    /// Puts each document behind a board. There are 1 to 16 documents, none of which has had a change since it was opened, and
+    /// 1 to 64 numbers for passes. The first pass has number 0, all other numbers to give away, and 2^62 turns on each document.
+    /// Where there is no memory the documents are dropped.
     pub fn new(alloc: Global, docs: Vec<J>, seats: u32) -> Result<(Host<J>, Pass<J>), NoMemory>
         requires docs { (1 ≤ vec_len docs) × (vec_len docs ≤ 16) }
         requires seats { (1 ≤ seats) × (seats ≤ 64) }
@@ -57,7 +59,8 @@ impl<J: Journaled> Host<J> {
         ))
     }
 
-    /// Makes a call in a turn of its own, which it waits for.
+    /// Makes a call on a document in a turn of its own, which it waits for. That costs one of the pass's turns there, whatever
+    /// becomes of the call.
     pub fn submit<R: Wait>(
         &self,
         rt: &R,
@@ -78,7 +81,8 @@ impl<J: Journaled> Host<J> {
         submit_in_turn(rt, alloc, board, seat, call)
     }
 
-    /// Makes a call if the turn is free at this moment. Else it is `Busy`, which it never is for a whole pass.
+    /// Makes a call as `submit` does, if the turn is free at this moment. Else it is `Busy`, costs no turn, and leaves all that the
+    /// pass knows of its calls and of the document. It is never `Busy` for a whole pass.
     pub fn try_submit(
         &self,
         alloc: Global,
@@ -99,7 +103,7 @@ impl<J: Journaled> Host<J> {
         try_submit_in_turn(alloc, board, seat, call)
     }
 
-    /// The number of changes of a document, by one load. It becomes the pass's floor there.
+    /// The number of changes of a document since it was opened, by one load. It is at least the pass's floor there, and becomes it.
     pub fn front(&self, pass: &mut Pass<J>, doc: usize) -> u64
         requires host { IsPassOf self.now pass.old }
         requires doc { doc < length self.now.boards.items }
@@ -111,7 +115,8 @@ impl<J: Journaled> Host<J> {
         board.front(seat)
     }
 
-    /// A new pass, with the least free number and half of the turns on each document. It has seen what this pass has seen.
+    /// A new pass, with the least free number and half of the turns on each document, rounded down. It has seen what this pass
+    /// has seen. Where there is no memory this pass is as before.
     pub fn split_pass(&self, alloc: Global, pass: &mut Pass<J>) -> Result<Pass<J>, NoMemory>
         requires host { IsPassOf self.now pass.old }
         requires free { 1 ≤ free_in (views pass.old) }
@@ -131,7 +136,8 @@ impl<J: Journaled> Host<J> {
         Ok(Pass { seats })
     }
 
-    /// Takes in another pass.
+    /// Takes in another pass, with its turns and free numbers, and keeps what was made under its number. The longer of what the
+    /// two have seen of each document is what is seen.
     pub fn join_pass(&self, into: &mut Pass<J>, from: Pass<J>)
         requires into { IsPassOf self.now into.old }
         requires from { IsPassOf self.now from }
@@ -148,7 +154,8 @@ impl<J: Journaled> Host<J> {
         }
     }
 
-    /// The documents, once one pass has all numbers.
+    /// The documents, in their order, once one pass has all numbers. The history of each has the calls of every number just as
+    /// the passes made them.
     pub fn close(self, pass: Pass<J>) -> Vec<J>
         requires host { IsPassOf self pass }
         requires whole { whole_in (views pass) }

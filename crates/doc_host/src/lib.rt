@@ -2,19 +2,24 @@
 //!
 //! - `host`: documents behind boards, and the calls of passes on them
 //! - `pass`: a right to make calls on each document of a host
-//! - `journaled`: what a document that is kept in a journal owes to a host
+//! - `document`: a document that is kept in a journal, as a host takes it
+//! - `journaled`: what it owes to a host
+//! - `laws`: what holds of all callers of a host together
 //! - `shared`: a document as a board keeps it
 //! - `turn`: one call, in a turn of its own
 //! - `room`: the room in which the documents of a host come back
 #![tactic(auto)]
 
+mod document;
 mod host;
 mod journaled;
+pub mod laws;
 mod pass;
 mod room;
 mod shared;
 mod turn;
 
+pub use document::Document;
 pub use host::Host;
 pub use journaled::{Journaled, Opening};
 pub use pass::Pass;

@@ -1,8 +1,9 @@
-//! The tests of documents that threads share: passes in threads of their own, and what is found at the close.
+//! Calls of two passes of one host on one document, side by side: that documents of any kind may be shared between threads, and
+//! what both calls together promise.
 //!
-//! They stand apart from the crates that they test, so that their proof isn't another proof of those.
+//! They stand apart from the crate that they test, so that their proof isn't another proof of it.
 #![tactic(auto)]
 
 mod side_by_side;
-#[cfg(test)]
-mod host_tests;
+
+pub use side_by_side::{submit_in_two_threads, submit_side_by_side};

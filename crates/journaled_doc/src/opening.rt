@@ -23,7 +23,6 @@ use cell_journal::{Got, Journal, JournalFault, Reading};
 use change_record::{ChangeFault, read_change};
 use compact_values::{Guid, NoMemory, Octets};
 use doc_model::Core;
-use doc_model::laws::every_call_keeps_sound;
 use doc_story::Story;
 use host_edge::Disk;
 use std::alloc::Global;
@@ -154,7 +153,6 @@ impl<C: Core, D: Disk> JournaledDoc<C, D> {
         };
         let guid = core.guid();
         guid_fits(guid);
-        every_call_keeps_sound();
         match Journal::create(disk, guid) {
             Ok(journal) => Ok(opened(core, journal, story)),
             Err((disk, fault)) => Err((disk, open_fault(fault))),
