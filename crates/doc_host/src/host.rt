@@ -1,13 +1,13 @@
 // Documents behind boards, and the calls of passes on them.
 ghost use Rattle.std.specs.Prelude.{◌≤◌, length};
 
+use crate::journaled::Journaled;
 use crate::pass::Pass;
 use crate::room::Room;
 use crate::shared::Shared;
 use crate::turn::{submit_in_turn, try_submit_in_turn};
 use compact_values::NoMemory;
 use doc_model::{Call, Submitted};
-use crate::journaled::Journaled;
 use std::alloc::Global;
 use std::sync::{Mutex, Wait};
 use turn_board::{Board, Busy};

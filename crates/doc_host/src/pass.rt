@@ -1,7 +1,7 @@
 // A right to make calls on each document of a host.
+use crate::journaled::{Journaled, Opening};
 use crate::shared::Shared;
 use doc_model::{Call, Made};
-use crate::journaled::{Journaled, Opening};
 use turn_board::SeatOf;
 
 /// A right to make calls on each document of a host: a seat at each, all with one number. A thread carries its own.

@@ -2,8 +2,8 @@
 ghost use Rattle.std.specs.Prelude.{◌≡◌, length};
 ghost use Rattle.turn_board.specs.Last.{has_moved};
 
-use doc_model::{Call, Made, Submitted};
 use crate::journaled::{Journaled, Opening};
+use doc_model::{Call, Made, Submitted};
 use std::alloc::Global;
 use turn_board::Kept;
 

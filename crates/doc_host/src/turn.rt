@@ -8,9 +8,9 @@ ghost use Rattle.doc_host.specs.Submits.{MayBeMade};
 ghost use Rattle.doc_host.specs.Passes.{numbers_of};
 ghost use Rattle.doc_host.specs.Seats.{Knows, MakesWith, HasMade, FoundBusy};
 
+use crate::journaled::Journaled;
 use crate::shared::Shared;
 use doc_model::{Call, Submitted};
-use crate::journaled::Journaled;
 use std::alloc::Global;
 use std::sync::Wait;
 use turn_board::{Board, Busy, Held, Seat};

@@ -7,8 +7,8 @@ ghost use Rattle.doc_host.specs.Passes.{At, turns_at, free_in};
 ghost use Rattle.host_tests.specs.Splits.{SideBySide};
 ghost use Rattle.doc_host.specs.Views.{views, IsPassOf};
 
-use doc_host::{Host, Journaled, Pass};
 use compact_values::NoMemory;
+use doc_host::{Host, Journaled, Pass};
 use doc_model::{Call, Submitted};
 use std::alloc::Global;
 use std::sync::Wait;
