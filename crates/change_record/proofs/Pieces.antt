@@ -1,5 +1,5 @@
 -- What is behind pieces that stand one behind the other.
-use Rattle.std.proofs.Common.{◌≡◌, ◌≢◌, ◌↔◌, ℕ, ◌+◌, ◌<◌, Bool, false, true, List, [], ◌∷◌, ◌++◌, length, get_or, take, drop, Option, Some, None, Result, Ok, Err, Bor, refl, sym, ap, ◌∙◌, append_assoc, arith}
+use Rattle.std.proofs.Common.{◌≡◌, ◌≢◌, ◌↔◌, ℕ, ◌+◌, ◌<◌, Bool, false, List, [], ◌∷◌, ◌++◌, length, get_or, take, drop, Option, Some, None, Result, Ok, Err, Bor, refl, sym, ap, ◌∙◌, append_assoc, arith}
 use Rattle.std.specs.List.{flat_map}
 use Rattle.std.proofs.lemmas.Grind.{flat_map-append}
 use Rattle.std.proofs.lemmas.Bool.Decides.{nat_tests}
@@ -19,7 +19,6 @@ use Rattle.compact_values.specs.Compact as compacts
 use Rattle.compact_values.specs.Ids as ids
 use Rattle.compact_values.specs.Items.{item, array}
 use Rattle.compact_values.specs.declared.ids.ExGuid.{ExGuid}
-use Rattle.compact_values.specs.declared.ids.Serial.TheVariants.{Null}
 use Rattle.stream_objects.specs.Written.{simple_object, started}
 use Rattle.doc_model.specs.declared.element.Object.{Object}
 use Rattle.doc_model.specs.declared.element.Content.TheVariants.{Inline, Apart}
@@ -139,9 +138,10 @@ module _ (bytes front es whole : List ℕ) (parts : whole ≡ front ++ es) where
       (λ no_way. absurd cc, λ same. absurd (none [] (same_rest front rest es (sym there ∙ same ∙ parts) ∙ sym (append-nil es))))
 
   pub nothing_behind : (rest more : List ℕ) (b : Bool) → bytes ≡ front ++ rest → rest ≡ es ++ more → b ≡ (length more == 0) → IsTrue b ↔ (bytes ≡ whole)
-  nothing_behind rest more b there elements is =
-      (λ yes. there ∙ ap (λ (l : List ℕ). front ++ l) (elements ∙ ap (λ (l : List ℕ). es ++ l) ((is_empty_by more b is).0 yes) ∙ append-nil es) ∙ sym parts,
-        λ same. (is_empty_by more b is).1 (same_rest es more [] (sym elements ∙ same_rest front rest es (sym there ∙ same ∙ parts) ∙ sym (append-nil es))))
+  nothing_behind rest more b there elements is = (
+    λ yes. there ∙ ap (λ (l : List ℕ). front ++ l) (elements ∙ ap (λ (l : List ℕ). es ++ l) ((is_empty_by more b is).0 yes) ∙ append-nil es) ∙ sym parts,
+    λ same. (is_empty_by more b is).1 (same_rest es more [] (sym elements ∙ same_rest front rest es (sym there ∙ same ∙ parts) ∙ sym (append-nil es))),
+  )
 
 pub upload_parts : (call : Call) (p : Put) → call.sub ≡ sub.Put p → change_bytes call ≡ (rows.front.bytes (front_of call) ++ rows.head.bytes (head_of p)) ++ flat_map put_element_bytes p.elements
 unfolding change_bytes asked_bytes put_bytes

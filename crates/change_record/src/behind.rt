@@ -70,7 +70,11 @@ fn write_declaration(piece: &mut Octets, object: &Object) -> Result<(), NoMemory
         Content::Inline { .. } => write_row(piece, 0x18, &(object.id, sizes)),
         Content::Apart { blob } => {
             if object.size == 0 {
-                write_row(piece, 0x05, &(object.id, (*blob, (object.partition, counts))))
+                write_row(
+                    piece,
+                    0x05,
+                    &(object.id, (*blob, (object.partition, counts))),
+                )
             } else {
                 write_row(piece, 0x05, &(object.id, (*blob, sizes)))
             }

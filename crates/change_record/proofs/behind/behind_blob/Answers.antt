@@ -23,4 +23,4 @@ returns c =
     let piece = c.in_ok-write_blob_front.ensures ∙ ap (λ (l : List ℕ). l ++ front) c.truncate.ensures in
     rw (blob_parts c.args.id c.args.content.now)
     (then_both front (c.args.content.now ++ written_end 0x01) c.args.bytes.now c.in-Some.rest.now c.behind_end.result (rw piece at c.in-Some.ensures)
-      (then_both c.args.content.now (written_end 0x01) c.in-Some.rest.now c.in-Some-behind.rest.now c.behind_end.result c.in-Some-behind.ensures c.behind_end.ensures))
+    (then_both c.args.content.now (written_end 0x01) c.in-Some.rest.now c.in-Some-behind.rest.now c.behind_end.result c.in-Some-behind.ensures c.behind_end.ensures))
