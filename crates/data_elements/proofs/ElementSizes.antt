@@ -1,5 +1,5 @@
 -- Elements are written in hardly more bytes than they are read from: at most five for each four.
-use Rattle.std.proofs.Common.{◌≡◌, ℕ, ◌+◌, ◌*◌, ◌≤◌, Bool, true, false, cond, List, [], ◌∷◌, ◌++◌, length, ap, ◌∙◌, arith, length-append}
+use Rattle.std.proofs.Common.{◌≡◌, ℕ, ◌*◌, ◌≤◌, Bool, false, cond, List, [], ◌∷◌, ◌++◌, length, ap, ◌∙◌, arith, length-append}
 use Rattle.std.specs.List.{flat_map}
 use Rattle.std.proofs.lemmas.List.Sums.{sum_by-cons}
 use Rattle.compact_values.specs.Compact.{compact, SpellsCompact}
@@ -7,12 +7,12 @@ use Rattle.compact_values.specs.Ids.{exguid, serial, SpellsSerial}
 use Rattle.compact_values.specs.Items.{item}
 use Rattle.compact_values.specs.Sequences.{◌▹◌}
 use Rattle.compact_values.specs.declared.ids.Serial.TheVariants as serials
-use Rattle.stream_objects.specs.Objects.{Each, Any, is_kind, children_of, fields_of}
+use Rattle.stream_objects.specs.Objects.{Each, is_kind, children_of, fields_of}
 use Rattle.stream_objects.specs.declared.tree.Tree.{Tree}
 use Rattle.stream_objects.specs.declared.tree.Tree.TheViews.{out-Tree}
-use Rattle.wire_kinds.specs.Row.{Row, IsOf, row_bytes}
+use Rattle.wire_kinds.specs.Row.{row_bytes}
 use Rattle.wire_kinds.specs.Short.{short_exguid}
-use Rattle.doc_model.specs.ElementObjects.{ElementFields, BlobContent}
+use Rattle.doc_model.specs.ElementObjects.{BlobContent}
 use Rattle.doc_model.specs.ElementRows.{manifest_mapping, cell_mapping, revision_mapping, schema_guid, manifest_root, current_revision, revision_manifest, revision_root, group_reference}
 use Rattle.doc_model.specs.Elements.{SaysBody, IsElement, IsPackage}
 use Rattle.doc_model.specs.Weights.{started_size, weight, weight_of}
@@ -24,7 +24,7 @@ use Rattle.doc_model.proofs.SizeLemmas.{length_started, length_compound, length_
 use Rattle.data_elements.proofs.Totals.{total, total-cons, total_filter, apart, apart_three, other_kind}
 use Rattle.data_elements.proofs.SpelledSizes.{size, size_out}
 use Rattle.data_elements.proofs.WrittenSizes.{own_size, row_size, each_size, two_more, two_for_few, compact_some, serial_some}
-use Rattle.data_elements.proofs.GroupSizes.{both_long, named_long, compact_long, holds_size, group_size}
+use Rattle.data_elements.proofs.GroupSizes.{both_long, named_long, compact_long, group_size}
 
 module _ (input : List ℕ) where
   abbrev kids : Tree → List Tree

@@ -1,20 +1,18 @@
 -- The objects of a group are written in hardly more bytes than they are read from.
 use Rattle.std.proofs.Common.{◌≡◌, ℕ, ◌+◌, ◌*◌, ◌≤◌, ◌||◌, ◌==◌, Bool, true, false, cond, List, [], ◌∷◌, ◌++◌, length, inl, inr, refl, sym, ap, ◌∙◌, arith, length-append, append_assoc}
-use Rattle.std.specs.Prelude.{filter}
 use Rattle.std.specs.List.{flat_map}
-use Rattle.std.proofs.lemmas.Bool.Decides.{nat_tests}
 use Rattle.compact_values.specs.Compact.{compact, SpellsCompact}
 use Rattle.compact_values.specs.Both.{SpellsBoth}
 use Rattle.compact_values.specs.Ids.{exguid, cell_id, SpellsExGuid}
 use Rattle.compact_values.specs.Items.{item, array}
 use Rattle.compact_values.specs.Sequences.{◌▹◌}
 use Rattle.compact_values.specs.declared.ids.ExGuid.{ExGuid}
-use Rattle.stream_objects.specs.Objects.{kind_of, is_kind, fields_of, children_of}
+use Rattle.stream_objects.specs.Objects.{is_kind, fields_of}
 use Rattle.stream_objects.specs.Written.{simple_object}
 use Rattle.stream_objects.specs.declared.tree.Tree.{Tree}
 use Rattle.stream_objects.specs.declared.tree.Tree.TheViews.{out-Tree}
 use Rattle.wire_kinds.specs.Short.{short_compact, short_exguid}
-use Rattle.doc_model.specs.ElementObjects.{NoFields, ObjectDeclaration, BlobDeclaration, ObjectData, BlobReference}
+use Rattle.doc_model.specs.ElementObjects.{ObjectDeclaration, BlobDeclaration, ObjectData, BlobReference}
 use Rattle.doc_model.specs.Groups.{EachPair, SaysContent, SaysGroup, declarations_in, data_in}
 use Rattle.doc_model.specs.Weights.{started_size}
 use Rattle.doc_model.specs.WrittenElements.{size_if_any, declaration_kind, declaration_fields, declaration_bytes, data_kind, data_fields, data_bytes, declarations_bytes, datas_bytes}

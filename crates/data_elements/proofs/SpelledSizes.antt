@@ -1,12 +1,11 @@
 -- How many bytes an object takes at least, with all that it holds.
-use Rattle.std.proofs.Common.{◌≡◌, ℕ, zero, suc, ◌+◌, ◌-◌, ◌≤◌, Bool, true, false, cond, List, [], ◌∷◌, length, map, sum, take, drop, refl, sym, ap, ◌∙◌, arith, length-append}
+use Rattle.std.proofs.Common.{◌≡◌, ℕ, zero, suc, ◌+◌, ◌-◌, ◌≤◌, Bool, true, false, cond, List, [], ◌∷◌, length, sum, drop, ap, arith, length-append}
 use Rattle.std.specs.List.{slice_range}
 use Rattle.std.proofs.lemmas.Bool.Decides.{nat_tests}
 use Rattle.std.proofs.lemmas.List.{length-take, length-drop}
-use Rattle.compact_values.specs.Compact.{compact}
 use Rattle.stream_objects.specs.Headers.{StartForm, EndForm, small, wide, large, small_end, wide_end, StartFits, IsStart, IsEnd, start_bytes, end_bytes}
 use Rattle.stream_objects.specs.Objects.{fields_of}
-use Rattle.stream_objects.specs.Trees.{Consecutive, StartsAt, EndsBehind, IsObject, IsTreeAt}
+use Rattle.stream_objects.specs.Trees.{Consecutive, EndsBehind, IsObject, IsTreeAt}
 use Rattle.stream_objects.specs.declared.tree.Tree.{Tree}
 use Rattle.stream_objects.specs.declared.tree.Tree.TheOpen.{Tree-F}
 use Rattle.stream_objects.specs.declared.tree.Tree.TheViews.{out-Tree}
@@ -55,7 +54,6 @@ slice_long input at next order inside = omega (arith, length-take (next - at) (d
 -- ---- objects
 
 module _ (input : List ℕ) where
-
   each_long : (n : ℕ) → ((t : Tree) (from next : ℕ) → IsObject n input t from next → from + size input t ≤ next) → (ts : List Tree) (from next : ℕ) → Consecutive (IsObject n input) ts from next
       → from + total (size input) ts ≤ next
   each_long n f [] from next h = omega (arith, h)

@@ -1,27 +1,23 @@
 -- What is read of elements is written in hardly more bytes: at most five for each four. Only the counts of references may take
 -- more bytes than before, and they are small beside the references.
-use Rattle.std.proofs.Common.{◌≡◌, ℕ, ◌+◌, ◌*◌, ◌-◌, ◌≤◌, ◌||◌, ◌==◌, Bool, true, false, cond, List, [], ◌∷◌, ◌++◌, length, inl, inr, refl, sym, ap, subst, ◌∙◌, arith, length-append}
-use Rattle.std.specs.List.{flat_map, sum_by}
+use Rattle.std.proofs.Common.{◌≡◌, ℕ, ◌+◌, ◌*◌, ◌≤◌, false, List, [], ◌∷◌, length, ap, arith, length-append}
+use Rattle.std.specs.List.{flat_map}
 use Rattle.std.proofs.lemmas.Bool.Decides.{nat_tests}
 use Rattle.compact_values.specs.Compact.{compact}
 use Rattle.compact_values.specs.GuidBytes.{guid_bytes}
 use Rattle.compact_values.specs.Ids.{exguid_value, exguid, serial, cell_id}
-use Rattle.compact_values.specs.Items.{item, array}
+use Rattle.compact_values.specs.Items.{array}
 use Rattle.compact_values.specs.declared.ids.ExGuid.{ExGuid}
 use Rattle.compact_values.specs.declared.ids.ExGuid.TheVariants as exguids
 use Rattle.compact_values.specs.declared.ids.CellId.{CellId}
 use Rattle.compact_values.specs.declared.ids.Serial.{Serial}
 use Rattle.compact_values.specs.declared.ids.Serial.TheVariants as serials
-use Rattle.stream_objects.specs.Objects.{HasFields, Each, Any, kind_of, is_kind, children_of, fields_of}
-use Rattle.stream_objects.specs.Written.{simple_object}
+use Rattle.stream_objects.specs.Objects.{Each, fields_of}
 use Rattle.stream_objects.specs.declared.tree.Tree.{Tree}
-use Rattle.stream_objects.specs.declared.tree.Tree.TheViews.{out-Tree}
 use Rattle.wire_kinds.specs.Row.{Row, IsOf, row_bytes}
-use Rattle.wire_kinds.specs.Short.{short_compact, short_exguid}
-use Rattle.doc_model.specs.ElementObjects.{PackageFields, ElementFields}
 use Rattle.doc_model.specs.Weights.{started_size}
-use Rattle.doc_model.proofs.SizeLemmas.{length_started, length_compound, length_three}
-use Rattle.data_elements.proofs.Totals.{total, total-cons, total_filter, apart, apart_three, other_kind, of_kind}
+use Rattle.doc_model.proofs.SizeLemmas.{length_started}
+use Rattle.data_elements.proofs.Totals.{total, total-cons}
 use Rattle.data_elements.proofs.SpelledSizes.{size, size_out}
 
 -- ---- values
