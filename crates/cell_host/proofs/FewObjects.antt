@@ -11,11 +11,11 @@ use Rattle.stream_objects.specs.declared.tree.Tree.{Tree}
 use Rattle.stream_objects.specs.declared.tree.Tree.TheViews.{out-Tree}
 use Rattle.stream_objects.proofs.Unique.{objects-cons, objects_out}
 use Rattle.wire_kinds.specs.Row.{IsOf}
-use Rattle.doc_model.specs.ElementRows.{manifest_mapping, cell_mapping, revision_mapping, manifest_root, revision_root, group_reference}
-use Rattle.doc_model.specs.Elements.{SaysBody, IsElement}
-use Rattle.doc_model.specs.Groups.{EachPair, SaysContent, SaysGroup, declarations_in, data_in}
-use Rattle.doc_model.specs.Requests.{IsRequest}
-use Rattle.doc_model.specs.Weights.{objects_in, objects_written}
+use Rattle.doc_model.specs.wire.ElementRows.{manifest_mapping, cell_mapping, revision_mapping, manifest_root, revision_root, group_reference}
+use Rattle.doc_model.specs.wire.Elements.{SaysBody, IsElement}
+use Rattle.doc_model.specs.wire.Groups.{EachPair, SaysContent, SaysGroup, declarations_in, data_in}
+use Rattle.doc_model.specs.wire.Requests.{IsRequest}
+use Rattle.doc_model.specs.rules.Weights.{objects_in, objects_written}
 use Rattle.doc_model.specs.declared.element.Body.{Body}
 use Rattle.doc_model.specs.declared.element.Body.TheVariants.{Index, Storage, Cell, Revision, Group, Blob}
 use Rattle.doc_model.specs.declared.element.Element.{Element}

@@ -4,10 +4,10 @@ use Rattle.std.specs.Prelude.{Option, Some, None}
 use Rattle.std.specs.List.{All, AllByRecursion}
 use Rattle.std.proofs.lemmas.List.Elements.{All-nil, All-cons}
 use Rattle.std.proofs.lemmas.Bool.{cases_Bool}
-use Rattle.doc_model.specs.Puts.{put, is_part, part_refusal, commit_refusal, part_reasons, commit_reasons, sent, sent_to, added_by, kept, committed}
-use Rattle.doc_model.specs.Drawing.{can_draw, draw}
-use Rattle.doc_model.specs.Responses.{code_number}
-use Rattle.doc_model.specs.Turns.{Turn, first_refusal, unless}
+use Rattle.doc_model.specs.rules.Puts.{put, is_part, part_refusal, commit_refusal, part_reasons, commit_reasons, sent, sent_to, added_by, kept, committed}
+use Rattle.doc_model.specs.rules.Drawing.{can_draw, draw}
+use Rattle.doc_model.specs.wire.Responses.{code_number}
+use Rattle.doc_model.specs.rules.Turns.{Turn, first_refusal, unless}
 use Rattle.doc_model.specs.declared.call.Put.{Put}
 use Rattle.doc_model.specs.declared.doc.Doc.{Doc}
 use Rattle.doc_model.specs.declared.element.Element.{Element}

@@ -3,9 +3,9 @@ use Rattle.std.specs.Prelude.{◌≡◌, ◌≤◌, ◌<◌, ◌^◌, ℕ, List,
 use Rattle.std.specs.declared.option.Option.{Option}
 use Rattle.compact_values.specs.declared.guid.Guid.{Guid}
 use Rattle.http_head.specs.declared.body.TheConstants.{BODY_LIMIT}
-use Rattle.doc_model.specs.Apply.{empty_doc}
-use Rattle.doc_model.specs.Requests.{IsRequest}
-use Rattle.doc_model.specs.Responses.{response}
+use Rattle.doc_model.specs.rules.Apply.{empty_doc}
+use Rattle.doc_model.specs.wire.Requests.{IsRequest}
+use Rattle.doc_model.specs.wire.Responses.{response}
 use Rattle.doc_model.specs.declared.request.CellRequest.{CellRequest}
 use Rattle.cell_host.specs.Serving.{answers_of}
 

@@ -1,8 +1,8 @@
 -- What the sub-requests of a request ask of a document, and what each is answered.
 use Rattle.std.specs.Prelude.{ℕ, ◌/◌, ◌%◌, ◌==◌, Bool, List, [], ◌∷◌, codes, Option, Some, None}
 use Rattle.compact_values.specs.declared.ids.ExGuid.{ExGuid}
-use Rattle.doc_model.specs.Apply.{apply}
-use Rattle.doc_model.specs.Turns.{Turn, refused}
+use Rattle.doc_model.specs.rules.Apply.{apply}
+use Rattle.doc_model.specs.rules.Turns.{Turn, refused}
 use Rattle.doc_model.specs.declared.call.Call.{Call}
 use Rattle.doc_model.specs.declared.call.Put.{Put}
 use Rattle.doc_model.specs.declared.call.Sub.{Sub}

@@ -3,9 +3,9 @@ ghost use Rattle.std.specs.Prelude.{◌≡◌, ◌<◌, ◌^◌, ℕ, List, IfOk
 ghost use Rattle.cell_host.specs.Answer.{IsAccepted};
 ghost use Rattle.cell_host.specs.Run.{Runs};
 ghost use Rattle.cell_host.specs.Serving.{answers_of};
-ghost use Rattle.doc_model.specs.Apply.{empty_doc};
-ghost use Rattle.doc_model.specs.Requests.{IsRequest};
-ghost use Rattle.doc_model.specs.Responses.{response};
+ghost use Rattle.doc_model.specs.rules.Apply.{empty_doc};
+ghost use Rattle.doc_model.specs.wire.Requests.{IsRequest};
+ghost use Rattle.doc_model.specs.wire.Responses.{response};
 
 use crate::command::Command;
 use crate::input::{InputFault, read_input};

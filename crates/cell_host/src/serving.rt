@@ -1,9 +1,9 @@
 // Running the sub-requests of a request on a document.
 ghost use Rattle.std.specs.Prelude.{◌≡◌, ◌<◌, ◌≤◌, ◌^◌, length, All, IfOk, IfSome};
-ghost use Rattle.doc_model.specs.Apply.{apply};
-ghost use Rattle.doc_model.specs.Limits.{most_elements, most_objects};
-ghost use Rattle.doc_model.specs.Sound.{IsValidSub, Valid};
-ghost use Rattle.doc_model.specs.Weights.{objects_written};
+ghost use Rattle.doc_model.specs.rules.Apply.{apply};
+ghost use Rattle.doc_model.specs.rules.Limits.{most_elements, most_objects};
+ghost use Rattle.doc_model.specs.rules.Sound.{IsValidSub, Valid};
+ghost use Rattle.doc_model.specs.rules.Weights.{objects_written};
 ghost use Rattle.cell_host.specs.Serving.{anonymous, answer_to, answers_of, asked, call_of, has_flag, put_of, turn, turn_of};
 
 use compact_values::{Copied, ExGuid, NoMemory, Seq, Text};

@@ -8,7 +8,7 @@ use Rattle.wire_kinds.specs.Kind.{Kind, Spells}
 use Rattle.wire_kinds.specs.Kind as values
 use Rattle.wire_kinds.specs.Code.{Code}
 use Rattle.wire_kinds.specs.Code as value_codes
-use Rattle.doc_model.specs.Histories.{can_lock, can_move}
+use Rattle.doc_model.specs.rules.Histories.{can_lock, can_move}
 use Rattle.doc_model.specs.declared.call.Sub.{Sub}
 use Rattle.doc_model.specs.declared.call.Sub.TheVariants as sub
 use Rattle.doc_model.specs.declared.editor.EditorStep.{EditorStep}

@@ -4,9 +4,9 @@ use Rattle.std.specs.Prelude.{◌==◌, ◌/◌, ◌%◌}
 use Rattle.std.specs.List.{All, AllByRecursion, flat_map}
 use Rattle.compact_values.specs.declared.guid.Guid.{Guid}
 use Rattle.compact_values.specs.declared.ids.ExGuid.{ExGuid}
-use Rattle.doc_model.specs.FittingElements.{FitsElement}
-use Rattle.doc_model.specs.Limits.{most_objects}
-use Rattle.doc_model.specs.Weights.{objects_written}
+use Rattle.doc_model.specs.wire.FittingElements.{FitsElement}
+use Rattle.doc_model.specs.rules.Limits.{most_objects}
+use Rattle.doc_model.specs.rules.Weights.{objects_written}
 use Rattle.doc_model.specs.declared.call.Call.{Call}
 use Rattle.doc_model.specs.declared.call.Put.{Put}
 use Rattle.doc_model.specs.declared.call.Sub.{Sub}

@@ -10,9 +10,9 @@ use Rattle.stream_objects.specs.declared.tree.Tree.{Tree}
 use Rattle.stream_objects.specs.declared.fault.TreeFault.{TreeFault}
 use Rattle.stream_objects.specs.declared.fault.TreeFault.TheVariants as trees
 use Rattle.stream_objects.proofs.Longer.{object-longer}
-use Rattle.doc_model.specs.Elements.{IsElementWith}
-use Rattle.doc_model.specs.Weights.{objects_written}
-use Rattle.doc_model.specs.WrittenElements.{element_bytes}
+use Rattle.doc_model.specs.wire.Elements.{IsElementWith}
+use Rattle.doc_model.specs.rules.Weights.{objects_written}
+use Rattle.doc_model.specs.wire.WrittenElements.{element_bytes}
 use Rattle.doc_model.specs.declared.element.Element.{Element}
 use Rattle.data_elements.specs.Reading.{element_at}
 use Rattle.data_elements.specs.StandsAs.{StandsAs}

@@ -4,7 +4,7 @@ use Rattle.std.specs.List.{flat_map}
 use Rattle.std.proofs.lemmas.Grind.{flat_map-append}
 use Rattle.std.proofs.lemmas.Bool.Decides.{nat_tests}
 use Rattle.std.proofs.lemmas.List.{append-nil, drop_more, take-append-drop}
-use Rattle.doc_model.specs.WrittenElements.{size_if_any, declaration_bytes, data_fields, data_bytes, declarations_bytes, datas_bytes, blob_bytes, body_bytes, element_bytes}
+use Rattle.doc_model.specs.wire.WrittenElements.{size_if_any, declaration_bytes, data_fields, data_bytes, declarations_bytes, datas_bytes, blob_bytes, body_bytes, element_bytes}
 use Rattle.doc_model.specs.declared.element.Element.{Element}
 use Rattle.doc_model.specs.declared.element.Body.{Body}
 use Rattle.doc_model.specs.declared.element.Body.TheVariants.{Group, Blob}

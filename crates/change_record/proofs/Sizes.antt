@@ -8,8 +8,8 @@ use Rattle.compact_values.specs.Items.{item}
 use Rattle.compact_values.specs.declared.ids.Serial.TheVariants.{Null}
 use Rattle.stream_objects.specs.Headers.{end_bytes, end_form}
 use Rattle.stream_objects.specs.Written.{started, simple_object, compound_object}
-use Rattle.doc_model.specs.Histories.{can_move}
-use Rattle.doc_model.specs.WrittenElements.{data_bytes, data_fields, data_kind, datas_bytes, declarations_bytes, blob_bytes, kind_number, body_bytes, element_bytes}
+use Rattle.doc_model.specs.rules.Histories.{can_move}
+use Rattle.doc_model.specs.wire.WrittenElements.{data_bytes, data_fields, data_kind, datas_bytes, declarations_bytes, blob_bytes, kind_number, body_bytes, element_bytes}
 use Rattle.doc_model.specs.declared.call.Call.{Call}
 use Rattle.doc_model.specs.declared.call.Sub.{Sub}
 use Rattle.doc_model.specs.declared.call.Sub.TheVariants as sub

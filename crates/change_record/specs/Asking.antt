@@ -1,8 +1,8 @@
 -- What a reader of changes is given.
 use Rattle.std.specs.Prelude.{◌≡◌, true}
 use Rattle.std.specs.List.{AllByRecursion}
-use Rattle.doc_model.specs.Histories.{can_move}
-use Rattle.doc_model.specs.Sound.{IsValidSub}
+use Rattle.doc_model.specs.rules.Histories.{can_move}
+use Rattle.doc_model.specs.rules.Sound.{IsValidSub}
 use Rattle.doc_model.specs.declared.call.Put.{Put}
 use Rattle.doc_model.specs.declared.call.Sub.{Sub}
 use Rattle.change_record.specs.FittingCalls.{FitsPut, FitsAsked}

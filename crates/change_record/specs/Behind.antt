@@ -7,7 +7,7 @@ use Rattle.compact_values.specs.declared.ids.ExGuid.{ExGuid}
 use Rattle.compact_values.specs.declared.ids.Serial.TheVariants.{Null}
 use Rattle.stream_objects.specs.Headers.{written_start}
 use Rattle.stream_objects.specs.Written.{started}
-use Rattle.doc_model.specs.WrittenElements.{data_fields}
+use Rattle.doc_model.specs.wire.WrittenElements.{data_fields}
 use Rattle.doc_model.specs.declared.element.Content.TheVariants.{Inline}
 use Rattle.doc_model.specs.declared.element.Object.{Object}
 

@@ -6,9 +6,9 @@ use Rattle.compact_values.specs.declared.guid.Guid.{Guid}
 use Rattle.compact_values.specs.declared.ids.ExGuid.{ExGuid}
 use Rattle.compact_values.specs.declared.ids.Serial.TheVariants.{Null}
 use Rattle.wire_kinds.specs.Kind.{compact, guid}
-use Rattle.doc_model.specs.Histories.{can_move}
-use Rattle.doc_model.specs.Sound.{Valid}
-use Rattle.doc_model.specs.WrittenElements.{element_bytes}
+use Rattle.doc_model.specs.rules.Histories.{can_move}
+use Rattle.doc_model.specs.rules.Sound.{Valid}
+use Rattle.doc_model.specs.wire.WrittenElements.{element_bytes}
 use Rattle.doc_model.specs.declared.call.Call.{Call}
 use Rattle.doc_model.specs.declared.call.Put.{Put}
 use Rattle.doc_model.specs.declared.call.Sub.{Sub}

@@ -2,7 +2,7 @@
 use Rattle.std.specs.Prelude.{◌<◌, ◌^◌, length}
 use Rattle.std.specs.List.{AllByRecursion}
 use Rattle.compact_values.specs.Ids.{FitsGuid, FitsExGuid}
-use Rattle.doc_model.specs.FittingElements.{FitsElement, FitsRange}
+use Rattle.doc_model.specs.wire.FittingElements.{FitsElement, FitsRange}
 use Rattle.doc_model.specs.declared.call.Call.{Call}
 use Rattle.doc_model.specs.declared.call.Put.{Put}
 use Rattle.doc_model.specs.declared.call.Sub.{Sub}

@@ -5,7 +5,7 @@ ghost use Rattle.std.specs.Prelude.{◌≡◌, ◌≤◌, ◌++◌, [], true, If
 ghost use Rattle.std.specs.List.{flat_map};
 ghost use Rattle.stream_objects.specs.Headers.{written_end};
 ghost use Rattle.stream_objects.specs.Written.{started};
-ghost use Rattle.doc_model.specs.WrittenElements.{declaration_bytes, data_bytes, declarations_bytes, datas_bytes};
+ghost use Rattle.doc_model.specs.wire.WrittenElements.{declaration_bytes, data_bytes, declarations_bytes, datas_bytes};
 ghost use Rattle.doc_model.specs.declared.element.Body.TheVariants.{Group, Blob};
 ghost use Rattle.doc_model.specs.declared.element.Content.TheVariants.{Inline, Apart};
 ghost use Rattle.change_record.specs.Behind.{IsBehind, element_head, data_front, blob_front};
@@ -60,7 +60,7 @@ fn behind_start<'a>(
 }
 
 // The declaration of an object.
-#[tactic(auto, unfolding(doc_model::specs::WrittenElements::declaration_bytes, wire_kinds::specs::Row::row_bytes))]
+#[tactic(auto, unfolding(doc_model::specs::wire::WrittenElements::declaration_bytes, wire_kinds::specs::Row::row_bytes))]
 fn write_declaration(piece: &mut Octets, object: &Object) -> Result<(), NoMemory>
     ensures { OnOk result (piece.new ≡ piece.old ++ declaration_bytes object.now) }
 {
@@ -117,7 +117,7 @@ fn behind_inline<'a>(
 }
 
 // The data of an object whose bytes are in a blob.
-#[tactic(auto, unfolding(doc_model::specs::WrittenElements::data_bytes, wire_kinds::specs::Row::row_bytes))]
+#[tactic(auto, unfolding(doc_model::specs::wire::WrittenElements::data_bytes, wire_kinds::specs::Row::row_bytes))]
 fn write_apart(piece: &mut Octets, object: &Object, blob: ExGuid) -> Result<(), NoMemory>
     requires { object.now.content ≡ Apart blob }
     ensures { OnOk result (piece.new ≡ piece.old ++ data_bytes object.now) }

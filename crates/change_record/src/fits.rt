@@ -2,7 +2,7 @@
 // can tell. Each of these reads a value, which shows that it is so, and does nothing.
 ghost use Rattle.std.specs.Prelude.{◌≡◌, true};
 ghost use Rattle.std.specs.List.{All};
-ghost use Rattle.doc_model.specs.Histories.{can_move};
+ghost use Rattle.doc_model.specs.rules.Histories.{can_move};
 ghost use Rattle.change_record.specs.Changes.{IsShort};
 ghost use Rattle.change_record.specs.FittingCalls.{FitsPut, FitsLock, FitsEdit, FitsAsked, FitsCall};
 ghost use Rattle.change_record.specs.Kinds.{FitsText, FitsCarried};

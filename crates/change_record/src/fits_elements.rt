@@ -1,7 +1,7 @@
 // What a program holds of elements has its numbers in the ranges of their fields, and its lists are shorter than a length can
 // tell. Each of these reads a value, which shows that it is so, and does nothing.
 ghost use Rattle.std.specs.List.{All, AllByRecursion};
-ghost use Rattle.doc_model.specs.FittingElements.{FitsContent, FitsObject, FitsBody, FitsElement};
+ghost use Rattle.doc_model.specs.wire.FittingElements.{FitsContent, FitsObject, FitsBody, FitsElement};
 ghost use Rattle.change_record.specs.Sizes.{IsShortObject, IsShortBody};
 
 use compact_values::{CellId, ExGuid, Guid};

@@ -1,8 +1,8 @@
 // Reading the body of a change. What the bytes ask is taken from them, and then they are compared with the body that it has.
 ghost use Rattle.std.specs.Prelude.{◌≡◌, ◌↔◌, true, IfOk, IsErrOf, IsTrue, Some};
 ghost use Rattle.std.specs.List.{flat_map};
-ghost use Rattle.doc_model.specs.Histories.{can_move};
-ghost use Rattle.doc_model.specs.Sound.{Valid};
+ghost use Rattle.doc_model.specs.rules.Histories.{can_move};
+ghost use Rattle.doc_model.specs.rules.Sound.{Valid};
 ghost use Rattle.doc_model.specs.declared.call.Call.{Call};
 ghost use Rattle.doc_model.specs.declared.call.Put.{Put};
 ghost use Rattle.doc_model.specs.declared.call.Sub.{Sub};

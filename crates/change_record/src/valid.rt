@@ -1,11 +1,11 @@
 // Whether a call may be made, and is of a kind that may move.
 ghost use Rattle.std.specs.Prelude.{◌≡◌, ◌≤◌, ◌↔◌, All, IfSome, IsTrue, true};
-ghost use Rattle.doc_model.specs.Editing.{editor_timeout_of};
-ghost use Rattle.doc_model.specs.Histories.{can_lock, can_move};
-ghost use Rattle.doc_model.specs.Limits.{most_objects};
-ghost use Rattle.doc_model.specs.LockSteps.{timeout_of};
-ghost use Rattle.doc_model.specs.Sound.{IsValidSub, IsValidTimeout, Valid};
-ghost use Rattle.doc_model.specs.Weights.{objects_in, objects_written};
+ghost use Rattle.doc_model.specs.rules.Editing.{editor_timeout_of};
+ghost use Rattle.doc_model.specs.rules.Histories.{can_lock, can_move};
+ghost use Rattle.doc_model.specs.rules.Limits.{most_objects};
+ghost use Rattle.doc_model.specs.rules.LockSteps.{timeout_of};
+ghost use Rattle.doc_model.specs.rules.Sound.{IsValidSub, IsValidTimeout, Valid};
+ghost use Rattle.doc_model.specs.rules.Weights.{objects_in, objects_written};
 
 use doc_model::limits::{DAY, MOST_ELEMENTS, MOST_OBJECTS};
 use doc_model::{Body, Call, EditorStep, Element, LockStep, Sub};

@@ -1,7 +1,7 @@
 // Writing the body of a change. Where memory runs out, what was written so far is dropped.
 ghost use Rattle.std.specs.Prelude.{◌≡◌, ◌++◌, true, OnOk, IfOk};
 ghost use Rattle.std.specs.List.{flat_map};
-ghost use Rattle.doc_model.specs.Histories.{can_move};
+ghost use Rattle.doc_model.specs.rules.Histories.{can_move};
 ghost use Rattle.change_record.specs.Changes.{put_flags, put_element_bytes, head_of, put_bytes, kind_of, front_of, asked_bytes, change_bytes};
 ghost use Rattle.change_record.specs.Rows.{front, head};
 

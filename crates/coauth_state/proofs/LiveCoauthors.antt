@@ -3,8 +3,8 @@ use Rattle.std.proofs.Common.{◌≡◌, ◌∙◌, ℕ, refl, sym, ap, Bool, tr
 use Rattle.std.proofs.lemmas.List.Sums.{length-filter}
 use Rattle.compact_values.specs.declared.guid.Guid.{Guid}
 use Rattle.doc_model.specs.declared.lock.Member.{Member}
-use Rattle.doc_model.specs.Locks.{shared_by, is_live}
-use Rattle.doc_model.specs.LockSteps.{coauthors_of, coauthors_by}
+use Rattle.doc_model.specs.rules.Locks.{shared_by, is_live}
+use Rattle.doc_model.specs.rules.LockSteps.{coauthors_of, coauthors_by}
 
 abbrev is_coauthor : Member → Bool
 is_coauthor x = x.coauthor

@@ -5,7 +5,7 @@ use Rattle.doc_model.specs.declared.lock.LockRecord.{LockRecord}
 use Rattle.doc_model.specs.declared.lock.LockRecord.TheVariants as lock
 use Rattle.doc_model.specs.declared.lock.Member.{Member}
 use Rattle.doc_model.specs.declared.reply.Code.TheVariants as code
-use Rattle.doc_model.specs.LockSteps.{LockTurn, refuses, on_shared, on_member}
+use Rattle.doc_model.specs.rules.LockSteps.{LockTurn, refuses, on_shared, on_member}
 use Rattle.coauth_state.specs.declared.standing.Standing.{Standing}
 use Rattle.coauth_state.specs.declared.standing.Standing.TheVariants.{Free, Own, Other}
 

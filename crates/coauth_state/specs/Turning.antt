@@ -1,7 +1,7 @@
 -- What a plan of a lock step says.
 use Rattle.std.specs.Prelude.{◌≡◌}
 use Rattle.doc_model.specs.declared.lock.LockRecord.{LockRecord}
-use Rattle.doc_model.specs.LockSteps.{LockTurn, lock_after, lock_moved, lock_refusal}
+use Rattle.doc_model.specs.rules.LockSteps.{LockTurn, lock_after, lock_moved, lock_refusal}
 use Rattle.coauth_state.specs.declared.plan.LockPlan.{LockPlan}
 
 -- the plan is this turn of this lock

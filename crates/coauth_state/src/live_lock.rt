@@ -1,6 +1,6 @@
 ghost use Rattle.std.specs.Prelude.{◌≡◌, ◌&&◌, filter, count_by, IfOk};
-ghost use Rattle.doc_model.specs.Locks.{live, shared_by, is_live};
-ghost use Rattle.doc_model.specs.LockSteps.{coauthors_of, coauthors_by};
+ghost use Rattle.doc_model.specs.rules.Locks.{live, shared_by, is_live};
+ghost use Rattle.doc_model.specs.rules.LockSteps.{coauthors_of, coauthors_by};
 
 use compact_values::{Guid, NoMemory, Seq};
 use doc_model::{Coauthors, LockRecord, Member, Members};

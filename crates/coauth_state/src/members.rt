@@ -1,6 +1,6 @@
 ghost use Rattle.std.specs.Prelude.{◌≡◌, [], ◌∷◌, length, IfOk};
 ghost use Rattle.std.specs.List.{list_any};
-ghost use Rattle.doc_model.specs.LockSteps.{is_client, member, others, with_client};
+ghost use Rattle.doc_model.specs.rules.LockSteps.{is_client, member, others, with_client};
 ghost use Rattle.coauth_state.specs.Standings.{members_of};
 
 use compact_values::{Guid, NoMemory, Seq};

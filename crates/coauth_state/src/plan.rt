@@ -1,5 +1,5 @@
 ghost use Rattle.std.specs.Prelude.{◌≡◌};
-ghost use Rattle.doc_model.specs.LockSteps.{becomes, stays, refuses, leaves};
+ghost use Rattle.doc_model.specs.rules.LockSteps.{becomes, stays, refuses, leaves};
 ghost use Rattle.coauth_state.specs.Turning.{IsTurn};
 
 use doc_model::{Code, LockRecord};

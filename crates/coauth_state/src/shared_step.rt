@@ -1,6 +1,6 @@
 ghost use Rattle.std.specs.Prelude.{◌≡◌, ℕ, ◌+◌, ◌<◌, ◌^◌, IfOk, IfSome, IsTrue};
-ghost use Rattle.doc_model.specs.Locks.{live};
-ghost use Rattle.doc_model.specs.LockSteps.{is_shared_step, lock_turn, timeout_of};
+ghost use Rattle.doc_model.specs.rules.Locks.{live};
+ghost use Rattle.doc_model.specs.rules.LockSteps.{is_shared_step, lock_turn, timeout_of};
 ghost use Rattle.coauth_state.specs.Turning.{IsTurn};
 
 use crate::live_lock::live;

@@ -1,7 +1,7 @@
 ghost use Rattle.std.specs.Prelude.{◌≡◌, false, IfOk};
 ghost use Rattle.doc_model.specs.declared.lock.LockRecord.TheVariants.{Shared};
-ghost use Rattle.doc_model.specs.Locks.{shared_by};
-ghost use Rattle.doc_model.specs.LockSteps.{becomes, stays, on_shared, on_member, others, with_client, take_shared, to_exclusive};
+ghost use Rattle.doc_model.specs.rules.Locks.{shared_by};
+ghost use Rattle.doc_model.specs.rules.LockSteps.{becomes, stays, on_shared, on_member, others, with_client, take_shared, to_exclusive};
 ghost use Rattle.coauth_state.specs.Turning.{IsTurn};
 
 use crate::live_lock::shared_by;

@@ -4,12 +4,12 @@ use Rattle.std.specs.Prelude.{Option, Some, None}
 use Rattle.std.specs.List.{AllByRecursion}
 use Rattle.std.proofs.lemmas.Bool.{cases_Bool}
 use Rattle.compact_values.specs.declared.guid.Guid.{Guid}
-use Rattle.doc_model.specs.Apply.{apply}
-use Rattle.doc_model.specs.Histories.{Fits}
-use Rattle.doc_model.specs.Puts.{put, is_part, part_refusal, commit_refusal, part_reasons, commit_reasons, sent, sent_to, added_by, kept, committed}
-use Rattle.doc_model.specs.Drawing.{can_draw, draw}
-use Rattle.doc_model.specs.Responses.{code_number}
-use Rattle.doc_model.specs.Turns.{Turn, first_refusal, unless}
+use Rattle.doc_model.specs.rules.Apply.{apply}
+use Rattle.doc_model.specs.rules.Histories.{Fits}
+use Rattle.doc_model.specs.rules.Puts.{put, is_part, part_refusal, commit_refusal, part_reasons, commit_reasons, sent, sent_to, added_by, kept, committed}
+use Rattle.doc_model.specs.rules.Drawing.{can_draw, draw}
+use Rattle.doc_model.specs.wire.Responses.{code_number}
+use Rattle.doc_model.specs.rules.Turns.{Turn, first_refusal, unless}
 use Rattle.doc_model.specs.declared.call.Put.{Put}
 use Rattle.doc_model.specs.declared.call.Sub.{Sub}
 use Rattle.doc_model.specs.declared.doc.Doc.{Doc}

@@ -1,7 +1,7 @@
 -- The request in a Cell: at most 64 sub-requests, and puts that may be made.
 use Rattle.std.proofs.Common.{◌≡◌, ℕ, ◌≤◌, Bool, true, false, List, length, Option, Some, None, Result, Ok, Err, refl, subst}
 use Rattle.std.specs.Prelude.{IfOk}
-use Rattle.doc_model.specs.Requests.{IsRequest}
+use Rattle.doc_model.specs.wire.Requests.{IsRequest}
 use Rattle.doc_model.specs.declared.request.CellRequest.{CellRequest}
 use Rattle.compact_values.proofs.LittleEndian.{IsBytes}
 use Rattle.wire_requests.specs.RequestOf.{request_of}

@@ -3,16 +3,16 @@ use Rattle.std.proofs.Common.{◌≡◌, ℕ, List, [], ◌∷◌, ◌++◌, tru
 use Rattle.std.specs.Prelude.{codes}
 use Rattle.std.specs.List.{flat_map}
 use Rattle.compact_values.specs.declared.guid.Guid.{Guid}
-use Rattle.doc_model.specs.Apply.{apply, empty_doc}
-use Rattle.doc_model.specs.Responses.{failure, pulled_package, response, sub_response}
-use Rattle.doc_model.specs.WrittenElements.{cell_knowledge_bytes, knowledge_bytes, ranges_bytes}
+use Rattle.doc_model.specs.rules.Apply.{apply, empty_doc}
+use Rattle.doc_model.specs.wire.Responses.{failure, pulled_package, response, sub_response}
+use Rattle.doc_model.specs.wire.WrittenElements.{cell_knowledge_bytes, knowledge_bytes, ranges_bytes}
 use Rattle.doc_model.specs.declared.call.Sub.{Sub}
 use Rattle.doc_model.specs.declared.call.Sub.TheVariants as sub
 use Rattle.doc_model.specs.declared.doc.Doc.{Doc}
 use Rattle.doc_model.specs.declared.editor.EditorStep.TheVariants as editor
 use Rattle.doc_model.specs.declared.lock.LockStep.{LockStep}
 use Rattle.doc_model.specs.declared.lock.LockStep.TheVariants as lock
-use Rattle.doc_model.specs.Turns.{Turn}
+use Rattle.doc_model.specs.rules.Turns.{Turn}
 use Rattle.doc_model.specs.declared.reply.Reply.TheVariants.{Me}
 use Rattle.doc_model.specs.declared.reply.Submitted.TheVariants.{Answered}
 use Rattle.doc_model.specs.declared.request.CellRequest.{CellRequest}

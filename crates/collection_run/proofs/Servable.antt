@@ -4,7 +4,7 @@ use Rattle.std.specs.Prelude.{IfSome, IfOk}
 use Rattle.std.specs.List.{AllByRecursion}
 use Rattle.std.proofs.lemmas.List.Quantifiers.{position-Some}
 use Rattle.compact_values.specs.declared.guid.Guid.{Guid}
-use Rattle.doc_model.specs.Sound.{IsValidSub}
+use Rattle.doc_model.specs.rules.Sound.{IsValidSub}
 use Rattle.doc_model.specs.declared.call.Sub.{Sub}
 use Rattle.doc_model.specs.declared.reply.Answer.{Answer}
 use Rattle.doc_model.specs.declared.reply.Submitted.{Submitted}

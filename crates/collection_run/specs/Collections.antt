@@ -1,7 +1,7 @@
 -- The calls of one envelope, in their order, and the text that it is answered.
 use Rattle.std.specs.Prelude.{ℕ, List, [], ◌∷◌, ◌++◌, Result, Ok, Err, Option, Some, None, encode_utf8_all}
 use Rattle.compact_values.specs.declared.guid.Guid.{Guid}
-use Rattle.doc_model.specs.Responses.{response, failure}
+use Rattle.doc_model.specs.wire.Responses.{response, failure}
 use Rattle.doc_model.specs.declared.call.Call.{Call}
 use Rattle.doc_model.specs.declared.call.Sub.{Sub}
 use Rattle.doc_model.specs.declared.element.Element.{Element}

@@ -1,8 +1,8 @@
 -- What the bytes of a Cell ask (MS-FSSHTTPB 2.2.2).
 use Rattle.std.specs.Prelude.{ℕ, ◌<◌, ◌≤◌, List, length, Bool, Result, Ok, Err, Option, Some, None, if◌then◌else◌}
 use Rattle.std.specs.List.{All, AllByRecursion}
-use Rattle.doc_model.specs.Limits.{most_elements, most_objects}
-use Rattle.doc_model.specs.Weights.{objects_written}
+use Rattle.doc_model.specs.rules.Limits.{most_elements, most_objects}
+use Rattle.doc_model.specs.rules.Weights.{objects_written}
 use Rattle.doc_model.specs.declared.request.CellRequest.{CellRequest}
 use Rattle.wire_requests.specs.RequestOf.{request_of}
 use Rattle.collection_run.specs.declared.opening.TheConstants.{ANOTHER_PARTITION, NO_REQUEST}

@@ -2,8 +2,8 @@
 use Rattle.std.specs.Prelude.{◌≡◌, ℕ, ◌-◌, ◌<◌, List, [], ◌∷◌}
 use Rattle.doc_model.specs.declared.call.Call.{Call}
 use Rattle.doc_model.specs.declared.reply.Submitted.{Submitted}
-use Rattle.doc_model.specs.Histories.{Fits}
-use Rattle.doc_model.specs.Sound.{Valid}
+use Rattle.doc_model.specs.rules.Histories.{Fits}
+use Rattle.doc_model.specs.rules.Sound.{Valid}
 
 -- it says a text, or calls a document and goes on by what became of it
 pub data Process : Type 0 where

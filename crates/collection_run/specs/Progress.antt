@@ -1,7 +1,7 @@
 -- How far a collection is, and what is still to come of it.
 use Rattle.std.specs.Prelude.{◌≡◌, ℕ, ◌+◌, ◌≤◌, List, [], ◌∷◌, ◌++◌, length, take, drop, All, Option, Some, None, IfSome}
 use Rattle.compact_values.specs.declared.guid.Guid.{Guid}
-use Rattle.doc_model.specs.Responses.{response}
+use Rattle.doc_model.specs.wire.Responses.{response}
 use Rattle.doc_model.specs.declared.call.Call.{Call}
 use Rattle.doc_model.specs.declared.call.Sub.{Sub}
 use Rattle.doc_model.specs.declared.call.Sub.TheVariants.{Put}

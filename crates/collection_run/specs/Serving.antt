@@ -1,6 +1,6 @@
 -- Processes over documents: each call is applied to its document, as it then is.
 use Rattle.std.specs.Prelude.{ℕ, List}
-use Rattle.doc_model.specs.Apply.{apply}
+use Rattle.doc_model.specs.rules.Apply.{apply}
 use Rattle.doc_model.specs.declared.doc.Doc.{Doc}
 use Rattle.doc_model.specs.declared.reply.Submitted.TheVariants.{Answered}
 use Rattle.collection_run.specs.Processes.{Process, says, calls}

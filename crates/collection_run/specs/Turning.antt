@@ -1,6 +1,6 @@
 -- The steps of a collection.
 use Rattle.std.specs.Prelude.{◌≡◌, ℕ, ◌+◌, ◌-◌, ◌*◌, ◌<◌, ◌≤◌, List, [], ◌∷◌, length, drop, Option, Some, None}
-use Rattle.doc_model.specs.Responses.{response}
+use Rattle.doc_model.specs.wire.Responses.{response}
 use Rattle.doc_model.specs.declared.call.Call.{Call}
 use Rattle.doc_model.specs.declared.call.Sub.{Sub}
 use Rattle.doc_model.specs.declared.reply.Submitted.{Submitted}

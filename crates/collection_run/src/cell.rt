@@ -1,6 +1,6 @@
 // How far the binary request of a Cell is.
 ghost use Rattle.std.specs.Prelude.{◌≡◌, All, IfOk};
-ghost use Rattle.doc_model.specs.Responses.{response};
+ghost use Rattle.doc_model.specs.wire.Responses.{response};
 ghost use Rattle.envelope_read.specs.declared.outcome.Outcome.TheVariants.{Cell};
 ghost use Rattle.wire_responses.specs.Forms.{HasForm};
 ghost use Rattle.collection_run.specs.Asking.{unknown, word_of};

@@ -2,7 +2,7 @@
 ghost use Rattle.std.specs.Prelude.{◌≡◌, IfOk, IfSome};
 ghost use Rattle.envelope_read.specs.declared.outcome.CellWord.TheVariants.{CellFail};
 ghost use Rattle.envelope_read.specs.declared.outcome.Outcome.TheVariants.{Cell};
-ghost use Rattle.doc_model.specs.Responses.{failure};
+ghost use Rattle.doc_model.specs.wire.Responses.{failure};
 ghost use Rattle.wire_requests.specs.RequestOf.{request_of};
 ghost use Rattle.collection_run.specs.Opening.{IsSmall};
 

@@ -1,6 +1,6 @@
 // How far a collection is.
 ghost use Rattle.std.specs.Prelude.{◌≡◌, ◌<◌, ◌≤◌, IfOk, OnOk, OnErr, length, drop, Some, None};
-ghost use Rattle.doc_model.specs.Histories.{Fits};
+ghost use Rattle.doc_model.specs.rules.Histories.{Fits};
 ghost use Rattle.doc_model.specs.declared.call.Call.{Call};
 ghost use Rattle.envelope_read.specs.declared.collection.Ask.{Ask};
 ghost use Rattle.envelope_read.specs.declared.collection.SubAsk.{SubAsk};

@@ -1,6 +1,6 @@
 // Takes a collection through its calls.
 ghost use Rattle.std.specs.Prelude.{◌≡◌, IfOk, OnOk, Some, None};
-ghost use Rattle.doc_model.specs.Histories.{Fits};
+ghost use Rattle.doc_model.specs.rules.Histories.{Fits};
 ghost use Rattle.doc_model.specs.declared.call.Call.{Call};
 ghost use Rattle.collection_run.specs.Collections.{process};
 ghost use Rattle.collection_run.specs.Processes.{after, says};

@@ -1,11 +1,11 @@
 // Calls that tests make, and what they are answered. Each call is first seen to be one that may be made, so that no test has
 // to prove it. What takes memory is a result, which a `Table` takes as it is.
 ghost use Rattle.std.specs.Prelude.{◌≡◌, ◌≤◌, ◌↔◌, All, IfSome, IsTrue};
-ghost use Rattle.doc_model.specs.Editing.{editor_timeout_of};
-ghost use Rattle.doc_model.specs.Limits.{most_objects};
-ghost use Rattle.doc_model.specs.LockSteps.{timeout_of};
-ghost use Rattle.doc_model.specs.Sound.{IsValidSub, IsValidTimeout, Valid};
-ghost use Rattle.doc_model.specs.Weights.{objects_in, objects_written};
+ghost use Rattle.doc_model.specs.rules.Editing.{editor_timeout_of};
+ghost use Rattle.doc_model.specs.rules.Limits.{most_objects};
+ghost use Rattle.doc_model.specs.rules.LockSteps.{timeout_of};
+ghost use Rattle.doc_model.specs.rules.Sound.{IsValidSub, IsValidTimeout, Valid};
+ghost use Rattle.doc_model.specs.rules.Weights.{objects_in, objects_written};
 
 use compact_values::{Copied, ExGuid, Guid, NoMemory, Octets, Seq, Text};
 use doc_model::{

@@ -15,9 +15,9 @@ use Rattle.stream_objects.specs.Parts.{IsFirstBroken}
 use Rattle.stream_objects.specs.ObjectFields.{single}
 use Rattle.stream_objects.specs.Gathering.{and_then}
 use Rattle.stream_objects.proofs.Broken.{Judges, all-append, broken_left, broken_right}
-use Rattle.doc_model.specs.ElementObjects.{ElementFields}
-use Rattle.doc_model.specs.Elements.{SaysBody}
-use Rattle.doc_model.specs.ElementParts.{Part, element, child, member, has_place, members_in, child_parts, ChildInForm, MemberInForm, KindInForm, InOwnForm, part_start}
+use Rattle.doc_model.specs.wire.ElementObjects.{ElementFields}
+use Rattle.doc_model.specs.wire.Elements.{SaysBody}
+use Rattle.doc_model.specs.readers.ElementParts.{Part, element, child, member, has_place, members_in, child_parts, ChildInForm, MemberInForm, KindInForm, InOwnForm, part_start}
 use Rattle.doc_model.specs.declared.element.Body.{Body}
 use Rattle.data_elements.specs.Rows.{child_ok, member_ok}
 use Rattle.data_elements.specs.Checking.{or_then, check_members, child_fault, check_at, unless_broken, or_broken, collect_from, only}

@@ -16,11 +16,11 @@ use Rattle.stream_objects.proofs.Broken.{Judges, all-append, broken_left, broken
 use Rattle.stream_objects.proofs.Children.{single_some, single_none}
 use Rattle.compact_values.specs.Taking.{take_guid, take_exguid, take_both}
 use Rattle.wire_kinds.specs.Row.{IsOf, row_at}
-use Rattle.doc_model.specs.ElementCodes.{manifest_code, cell_code, revision_code, root_code, revision_root_code}
-use Rattle.doc_model.specs.ElementRows.{manifest_mapping, cell_mapping, revision_mapping, schema_guid, manifest_root, current_revision, revision_manifest, revision_root, group_reference}
-use Rattle.doc_model.specs.ElementObjects.{ElementFields, PackageFields, BlobContent}
-use Rattle.doc_model.specs.Elements.{SaysBody, IsElement, IsPackage}
-use Rattle.doc_model.specs.ElementParts.{Part, element, has_place, parts_behind, element_row, element_parts, package_parts, KindInForm, InOwnForm, part_start}
+use Rattle.doc_model.specs.readers.ElementCodes.{manifest_code, cell_code, revision_code, root_code, revision_root_code}
+use Rattle.doc_model.specs.wire.ElementRows.{manifest_mapping, cell_mapping, revision_mapping, schema_guid, manifest_root, current_revision, revision_manifest, revision_root, group_reference}
+use Rattle.doc_model.specs.wire.ElementObjects.{ElementFields, PackageFields, BlobContent}
+use Rattle.doc_model.specs.wire.Elements.{SaysBody, IsElement, IsPackage}
+use Rattle.doc_model.specs.readers.ElementParts.{Part, element, has_place, parts_behind, element_row, element_parts, package_parts, KindInForm, InOwnForm, part_start}
 use Rattle.doc_model.specs.declared.element.Element.{Element}
 use Rattle.doc_model.specs.declared.element.Body.{Body}
 use Rattle.doc_model.specs.declared.element.Body.TheVariants.{Index, Storage, Cell, Revision, Group, Blob}

@@ -14,12 +14,12 @@ use Rattle.stream_objects.specs.Written.{started}
 use Rattle.stream_objects.specs.declared.tree.Tree.{Tree}
 use Rattle.stream_objects.specs.declared.tree.Tree.TheViews.{out-Tree}
 use Rattle.stream_objects.proofs.Standing.{At, at_front, at_back, inside_at, Whole, all_stand, branch, each_all, filter_true, objects-one, ones}
-use Rattle.doc_model.specs.ElementObjects.{IsNothing, NoFields}
-use Rattle.doc_model.specs.Elements.{SaysBody, IsElementWith}
-use Rattle.doc_model.specs.Groups.{SaysContent, EachPair}
-use Rattle.doc_model.specs.FittingElements.{FitsObject, FitsBody, FitsElement}
-use Rattle.doc_model.specs.Weights.{objects_in, objects_written}
-use Rattle.doc_model.specs.WrittenElements.{declaration_kind, declaration_bytes, data_kind, data_bytes, declarations_bytes, datas_bytes, blob_bytes, kind_number, body_bytes, element_bytes}
+use Rattle.doc_model.specs.wire.ElementObjects.{IsNothing, NoFields}
+use Rattle.doc_model.specs.wire.Elements.{SaysBody, IsElementWith}
+use Rattle.doc_model.specs.wire.Groups.{SaysContent, EachPair}
+use Rattle.doc_model.specs.wire.FittingElements.{FitsObject, FitsBody, FitsElement}
+use Rattle.doc_model.specs.rules.Weights.{objects_in, objects_written}
+use Rattle.doc_model.specs.wire.WrittenElements.{declaration_kind, declaration_bytes, data_kind, data_bytes, declarations_bytes, datas_bytes, blob_bytes, kind_number, body_bytes, element_bytes}
 use Rattle.doc_model.specs.declared.element.ManifestMap.{ManifestMap}
 use Rattle.doc_model.specs.declared.element.CellMap.{CellMap}
 use Rattle.doc_model.specs.declared.element.RevisionMap.{RevisionMap}
@@ -35,7 +35,7 @@ use Rattle.data_elements.proofs.Spelled.{id_spelled, serial_spelled, compact_spe
 use Rattle.data_elements.proofs.Runs.{Of, single, two, three, one_of}
 use Rattle.data_elements.proofs.ObjectsStand.{SaysDeclaration, SaysData, stands, blob_stands, declaration_stands, data_stands}
 use Rattle.wire_kinds.specs.Row.{IsOf, row_bytes}
-use Rattle.doc_model.specs.ElementRows.{manifest_mapping, cell_mapping, revision_mapping, schema_guid, manifest_root, current_revision, revision_manifest, revision_root, group_reference}
+use Rattle.doc_model.specs.wire.ElementRows.{manifest_mapping, cell_mapping, revision_mapping, schema_guid, manifest_root, current_revision, revision_manifest, revision_root, group_reference}
 use Rattle.doc_model.proofs.ShortRows.{short_manifest_mapping, short_cell_mapping, short_revision_mapping, short_schema_guid, short_manifest_root, short_current_revision, short_revision_manifest, short_revision_root, short_group_reference}
 
 -- ---- pairs of declarations and data

@@ -17,10 +17,10 @@ use Rattle.stream_objects.specs.Objects.{Each, kind_of, is_kind, start_of, child
 use Rattle.stream_objects.specs.ObjectFields.{single}
 use Rattle.stream_objects.specs.Gathering.{and_then}
 use Rattle.stream_objects.proofs.Children.{single_some, single_none}
-use Rattle.doc_model.specs.ElementObjects.{ElementFields, BlobDeclaration, BlobReference}
-use Rattle.doc_model.specs.Groups.{declarations_in, data_in, SaysContent, EachPair, SaysGroup, Agrees, EachAgrees, HalvesAgree}
-use Rattle.doc_model.specs.Elements.{SaysBody}
-use Rattle.doc_model.specs.ElementParts.{has_place, child_parts, members_in, ChildInForm, MemberInForm, KindInForm}
+use Rattle.doc_model.specs.wire.ElementObjects.{ElementFields, BlobDeclaration, BlobReference}
+use Rattle.doc_model.specs.wire.Groups.{declarations_in, data_in, SaysContent, EachPair, SaysGroup, Agrees, EachAgrees, HalvesAgree}
+use Rattle.doc_model.specs.wire.Elements.{SaysBody}
+use Rattle.doc_model.specs.readers.ElementParts.{has_place, child_parts, members_in, ChildInForm, MemberInForm, KindInForm}
 use Rattle.doc_model.specs.declared.element.Object.{Object}
 use Rattle.doc_model.specs.declared.element.Content.{Content}
 use Rattle.doc_model.specs.declared.element.Content.TheVariants.{Inline, Apart}

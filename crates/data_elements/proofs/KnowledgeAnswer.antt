@@ -4,8 +4,8 @@ use Rattle.compact_values.proofs.LittleEndian.{IsBytes}
 use Rattle.stream_objects.specs.declared.tree.Tree.{Tree}
 use Rattle.stream_objects.specs.Parts.{IsFirstBroken}
 use Rattle.stream_objects.proofs.Broken.{Judges, one_broken, none_broken}
-use Rattle.doc_model.specs.Knowledges.{SaysKnowledge}
-use Rattle.doc_model.specs.KnowledgeParts.{InOwnForm, part_start, knowledge_parts}
+use Rattle.doc_model.specs.wire.Knowledges.{SaysKnowledge}
+use Rattle.doc_model.specs.readers.KnowledgeParts.{InOwnForm, part_start, knowledge_parts}
 use Rattle.doc_model.specs.declared.knowledge.Knowledge.{Knowledge}
 use Rattle.doc_model.specs.declared.knowledge.Range.{Range}
 use Rattle.data_elements.specs.Answers.{Gives, IsKnowledgeAnswer, IsOnly}

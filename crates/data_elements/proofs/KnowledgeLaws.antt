@@ -21,9 +21,9 @@ use Rattle.stream_objects.specs.Gathering.{Gathers, gather}
 use Rattle.stream_objects.proofs.Broken.{Judges}
 use Rattle.stream_objects.proofs.Children.{single_some, single_none}
 use Rattle.stream_objects.proofs.GatherLaws.{Behind, judges_gather, again_gather}
-use Rattle.doc_model.specs.ElementObjects.{NoFields}
-use Rattle.doc_model.specs.Knowledges.{cell_knowledge, RangeFields, EntryFields, SpecializedFields, entry_ranges, AddsRanges, SaysCells, AddsCells, SaysKnowledge}
-use Rattle.doc_model.specs.KnowledgeParts.{Part, specialized, added, InOwnForm, part_start, cells_parts, guid_row, cells_behind, specialized_parts, knowledge_parts}
+use Rattle.doc_model.specs.wire.ElementObjects.{NoFields}
+use Rattle.doc_model.specs.wire.Knowledges.{cell_knowledge, RangeFields, EntryFields, SpecializedFields, entry_ranges, AddsRanges, SaysCells, AddsCells, SaysKnowledge}
+use Rattle.doc_model.specs.readers.KnowledgeParts.{Part, specialized, added, InOwnForm, part_start, cells_parts, guid_row, cells_behind, specialized_parts, knowledge_parts}
 use Rattle.doc_model.specs.declared.knowledge.Range.{Range}
 use Rattle.data_elements.specs.Rows.{has_no_fields}
 use Rattle.data_elements.specs.KnowledgeReading.{range_of, range_row, entry_row, add_range, add_entry, added_at, cells_at, only_cells, specialized_with, specialized_at, knowledge_at}

@@ -4,8 +4,9 @@ use Rattle.compact_values.proofs.LittleEndian.{IsBytes}
 use Rattle.stream_objects.specs.declared.tree.Tree.{Tree}
 use Rattle.stream_objects.specs.Parts.{IsFirstBroken}
 use Rattle.stream_objects.proofs.Broken.{Judges, one_broken, none_broken}
-use Rattle.doc_model.specs.ElementParts.{part_start, package_parts}
-use Rattle.doc_model.specs.NumberedElements.{IsNumberedPackage, InOwnForm}
+use Rattle.doc_model.specs.readers.ElementParts.{part_start, package_parts}
+use Rattle.doc_model.specs.wire.NumberedElements.{IsNumberedPackage}
+use Rattle.doc_model.specs.readers.NumberedParts.{InOwnForm}
 use Rattle.doc_model.specs.declared.element.NumberedElement.{NumberedElement}
 use Rattle.data_elements.specs.Answers.{Gives, IsNumberedAnswer, IsOnly}
 use Rattle.data_elements.specs.NumberedReading.{numbered_package_at}

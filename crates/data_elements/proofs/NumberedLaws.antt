@@ -16,11 +16,12 @@ use Rattle.stream_objects.specs.Objects.{Each, children_of}
 use Rattle.stream_objects.specs.Parts.{IsFirstBroken}
 use Rattle.stream_objects.specs.Gathering.{and_then}
 use Rattle.stream_objects.proofs.Broken.{Judges, all-append, broken_left, broken_right}
-use Rattle.doc_model.specs.ElementObjects.{ElementFields, PackageFields}
-use Rattle.doc_model.specs.ElementParts.{Part, element, child, member, has_place, members_in, child_parts, parts_behind, element_row, element_parts, package_parts, part_start}
-use Rattle.doc_model.specs.ElementParts as elements
-use Rattle.doc_model.specs.Elements.{SaysBody}
-use Rattle.doc_model.specs.NumberedElements.{IsNumbered, IsNumberedPackage, InOwnForm}
+use Rattle.doc_model.specs.wire.ElementObjects.{ElementFields, PackageFields}
+use Rattle.doc_model.specs.readers.ElementParts.{Part, element, child, member, has_place, members_in, child_parts, parts_behind, element_row, element_parts, package_parts, part_start}
+use Rattle.doc_model.specs.readers.ElementParts as elements
+use Rattle.doc_model.specs.wire.Elements.{SaysBody}
+use Rattle.doc_model.specs.wire.NumberedElements.{IsNumbered, IsNumberedPackage}
+use Rattle.doc_model.specs.readers.NumberedParts.{InOwnForm}
 use Rattle.doc_model.specs.declared.element.Body.{Body}
 use Rattle.doc_model.specs.declared.element.NumberedElement.{NumberedElement}
 use Rattle.data_elements.specs.Rows.{package_row}

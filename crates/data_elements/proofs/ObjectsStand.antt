@@ -11,10 +11,10 @@ use Rattle.stream_objects.specs.Objects.{HasFields, kind_of}
 use Rattle.stream_objects.specs.Written.{simple_object}
 use Rattle.stream_objects.specs.declared.tree.Tree.{Tree}
 use Rattle.stream_objects.proofs.Standing.{At, Whole, leaf, whole_map}
-use Rattle.doc_model.specs.ElementObjects.{ObjectDeclaration, BlobDeclaration, ObjectData, BlobReference, BlobContent}
-use Rattle.doc_model.specs.Knowledges.{RangeFields}
-use Rattle.doc_model.specs.FittingElements.{FitsContent, FitsObject, FitsRange}
-use Rattle.doc_model.specs.WrittenElements.{size_if_any, declaration_kind, declaration_fields, declaration_bytes, data_kind, data_fields, data_bytes, blob_bytes, range_bytes}
+use Rattle.doc_model.specs.wire.ElementObjects.{ObjectDeclaration, BlobDeclaration, ObjectData, BlobReference, BlobContent}
+use Rattle.doc_model.specs.wire.Knowledges.{RangeFields}
+use Rattle.doc_model.specs.wire.FittingElements.{FitsContent, FitsObject, FitsRange}
+use Rattle.doc_model.specs.wire.WrittenElements.{size_if_any, declaration_kind, declaration_fields, declaration_bytes, data_kind, data_fields, data_bytes, blob_bytes, range_bytes}
 use Rattle.doc_model.specs.declared.element.Object.{Object}
 use Rattle.doc_model.specs.declared.element.Content.{Content}
 use Rattle.doc_model.specs.declared.element.Content.TheVariants.{Inline, Apart}

@@ -4,8 +4,8 @@ use Rattle.compact_values.proofs.LittleEndian.{IsBytes}
 use Rattle.stream_objects.specs.declared.tree.Tree.{Tree}
 use Rattle.stream_objects.specs.Parts.{IsFirstBroken}
 use Rattle.stream_objects.proofs.Broken.{Judges, one_broken, none_broken}
-use Rattle.doc_model.specs.Elements.{IsPackage}
-use Rattle.doc_model.specs.ElementParts.{InOwnForm, part_start, package_parts}
+use Rattle.doc_model.specs.wire.Elements.{IsPackage}
+use Rattle.doc_model.specs.readers.ElementParts.{InOwnForm, part_start, package_parts}
 use Rattle.data_elements.specs.Reading.{package_at}
 use Rattle.data_elements.specs.Answers.{Gives, IsPackageAnswer, IsOnly}
 use Rattle.doc_model.specs.declared.element.Element.{Element}

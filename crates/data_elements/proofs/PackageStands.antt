@@ -14,12 +14,12 @@ use Rattle.stream_objects.specs.Written.{started}
 use Rattle.stream_objects.specs.declared.tree.Tree.{Tree}
 use Rattle.stream_objects.specs.declared.tree.Tree.TheViews.{out-Tree}
 use Rattle.stream_objects.proofs.Standing.{At, inside_at, Whole, all_stand, branch, objects-one, ones, filter_all}
-use Rattle.doc_model.specs.ElementObjects.{IsNothing}
-use Rattle.doc_model.specs.Elements.{IsElement, IsPackage}
-use Rattle.doc_model.specs.Knowledges.{cell_knowledge, RangeFields, SpecializedFields, AddsRanges, SaysCells, AddsCells, IsKnowledge}
-use Rattle.doc_model.specs.FittingElements.{FitsNumbered, FitsRange}
-use Rattle.doc_model.specs.Weights.{objects_written, package_objects}
-use Rattle.doc_model.specs.WrittenElements.{numbered_bytes, package_bytes, range_bytes, ranges_bytes, cell_knowledge_bytes, knowledge_bytes}
+use Rattle.doc_model.specs.wire.ElementObjects.{IsNothing}
+use Rattle.doc_model.specs.wire.Elements.{IsElement, IsPackage}
+use Rattle.doc_model.specs.wire.Knowledges.{cell_knowledge, RangeFields, SpecializedFields, AddsRanges, SaysCells, AddsCells, IsKnowledge}
+use Rattle.doc_model.specs.wire.FittingElements.{FitsNumbered, FitsRange}
+use Rattle.doc_model.specs.rules.Weights.{objects_written, package_objects}
+use Rattle.doc_model.specs.wire.WrittenElements.{numbered_bytes, package_bytes, range_bytes, ranges_bytes, cell_knowledge_bytes, knowledge_bytes}
 use Rattle.doc_model.specs.declared.element.Element.{Element}
 use Rattle.doc_model.specs.declared.element.NumberedElement.{NumberedElement}
 use Rattle.doc_model.specs.declared.knowledge.Range.{Range}

@@ -15,14 +15,14 @@ use Rattle.compact_values.proofs.Takes.{Takes, takes_compact, takes_byte, takes_
 use Rattle.wire_kinds.specs.Row.{row_at}
 use Rattle.wire_kinds.specs.RowLaws.{Reads, reads}
 use Rattle.wire_kinds.specs.Code.{◌▸◌, guid, exguid}
-use Rattle.doc_model.specs.ElementRows.{manifest_mapping, cell_mapping, revision_mapping, schema_guid, manifest_root, revision_manifest, revision_root, group_reference}
-use Rattle.doc_model.specs.ElementCodes.{manifest_code, cell_code, revision_code, root_code, revision_root_code}
+use Rattle.doc_model.specs.wire.ElementRows.{manifest_mapping, cell_mapping, revision_mapping, schema_guid, manifest_root, revision_manifest, revision_root, group_reference}
+use Rattle.doc_model.specs.readers.ElementCodes.{manifest_code, cell_code, revision_code, root_code, revision_root_code}
 use Rattle.stream_objects.specs.declared.tree.Tree.{Tree}
 use Rattle.stream_objects.specs.declared.tree.Tree.TheViews.{out-Tree}
 use Rattle.stream_objects.specs.Objects.{HasFields, fields_of, kind_of}
 use Rattle.stream_objects.proofs.Children.{simple_gets, simple_again, compound_gets, compound_again, IsBytes-fields}
-use Rattle.doc_model.specs.ElementObjects.{NoFields, PackageFields, ElementFields, BlobContent}
-use Rattle.doc_model.specs.ElementParts.{ChildInForm, element_row}
+use Rattle.doc_model.specs.wire.ElementObjects.{NoFields, PackageFields, ElementFields, BlobContent}
+use Rattle.doc_model.specs.readers.ElementParts.{ChildInForm, element_row}
 use Rattle.data_elements.specs.Rows.{simple_row, compound_row, is_nothing, if_nothing, has_no_fields, package_row, blob_row, child_ok}
 
 pub is_some_value : {V : Type 0} (o : Option V) → is_some o ≡ true → (v : V) × (o ≡ Some v)

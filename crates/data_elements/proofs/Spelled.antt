@@ -12,7 +12,7 @@ use Rattle.compact_values.specs.declared.ids.ExGuid.TheVariants as exguids
 use Rattle.compact_values.specs.declared.ids.Serial.{Serial}
 use Rattle.compact_values.specs.declared.ids.Serial.TheVariants as serials
 use Rattle.compact_values.specs.declared.ids.CellId.{CellId}
-use Rattle.doc_model.specs.WrittenElements.{size_if_any}
+use Rattle.doc_model.specs.wire.WrittenElements.{size_if_any}
 
 pub id_spelled : (id : ExGuid) → FitsExGuid id → SpellsExGuid id (exguid id)
 id_spelled id f = record { range = f; bytes_are = refl }

@@ -2,18 +2,18 @@
 use Rattle.std.specs.Prelude.{◌≡◌, ◌≢◌, ◌⊎◌, ◌<◌, ◌≤◌, ℕ, List, length, Option, Some, None, Result, Ok, Err}
 use Rattle.stream_objects.specs.declared.tree.Tree.{Tree}
 use Rattle.stream_objects.specs.Parts.{IsFirstBroken}
-use Rattle.doc_model.specs.Elements.{IsPackage}
-use Rattle.doc_model.specs.ElementParts as elements
-use Rattle.doc_model.specs.Knowledges.{IsKnowledge}
-use Rattle.doc_model.specs.KnowledgeParts as knowledges
-use Rattle.doc_model.specs.NumberedElements.{IsNumberedPackage}
-use Rattle.doc_model.specs.NumberedElements as numbered
+use Rattle.doc_model.specs.wire.Elements.{IsPackage}
+use Rattle.doc_model.specs.readers.ElementParts as elements
+use Rattle.doc_model.specs.wire.Knowledges.{IsKnowledge}
+use Rattle.doc_model.specs.readers.KnowledgeParts as knowledges
+use Rattle.doc_model.specs.wire.NumberedElements.{IsNumberedPackage}
+use Rattle.doc_model.specs.readers.NumberedParts as numbered
 use Rattle.doc_model.specs.declared.element.Element.{Element}
 use Rattle.doc_model.specs.declared.element.NumberedElement.{NumberedElement}
 use Rattle.doc_model.specs.declared.knowledge.Knowledge.{Knowledge}
 use Rattle.data_elements.specs.declared.fault.ElementFault.{ElementFault}
 use Rattle.data_elements.specs.declared.fault.ElementFault.TheVariants.{SchemaFault, TooMany, NoMemory}
-use Rattle.doc_model.specs.Limits.{most_elements}
+use Rattle.doc_model.specs.rules.Limits.{most_elements}
 
 -- The elements of a package in form, at most 8,192; or where the fields of the first object start that isn't in its
 -- form; or all objects are in form and there are more elements.

@@ -9,7 +9,7 @@ use Rattle.stream_objects.specs.Objects.{is_kind, start_of, children_of}
 use Rattle.stream_objects.specs.ObjectFields.{single}
 use Rattle.stream_objects.specs.Gathering.{and_then}
 use Rattle.stream_objects.specs.declared.object_types.TheConstants.{OBJECT_GROUP_DATA, OBJECT_GROUP_DECLARATIONS, OBJECT_GROUP_OBJECT_BLOB_DATA_DECLARATION, OBJECT_GROUP_OBJECT_DATA, OBJECT_GROUP_OBJECT_DATA_BLOB_REFERENCE, OBJECT_GROUP_OBJECT_DECLARE}
-use Rattle.doc_model.specs.Groups.{declarations_in, data_in}
+use Rattle.doc_model.specs.wire.Groups.{declarations_in, data_in}
 use Rattle.doc_model.specs.declared.element.Object.{Object}
 use Rattle.doc_model.specs.declared.element.Content.TheVariants.{Inline, Apart}
 use Rattle.doc_model.specs.declared.element.Body.{Body}

@@ -6,7 +6,7 @@ use Rattle.compact_values.specs.declared.ids.Serial.{Serial}
 use Rattle.compact_values.specs.declared.ids.CellId.{CellId}
 use Rattle.compact_values.specs.Taking.{take_compact, take_byte, take_guid, take_exguid, take_serial, take_cell_id, take_item, take_ids, take_cells, take_both, if_all}
 use Rattle.wire_kinds.specs.Row.{row_at}
-use Rattle.doc_model.specs.ElementCodes.{manifest_code, cell_code, revision_code, root_code, revision_root_code}
+use Rattle.doc_model.specs.readers.ElementCodes.{manifest_code, cell_code, revision_code, root_code, revision_root_code}
 use Rattle.stream_objects.specs.declared.tree.Tree.{Tree}
 use Rattle.stream_objects.specs.Objects.{is_kind}
 use Rattle.stream_objects.specs.ObjectFields.{simple_fields, compound_fields}

@@ -1,7 +1,7 @@
 // The objects of a group: declarations and data, which belong together in pairs.
 ghost use Rattle.std.specs.Prelude.{◌≡◌, ◌||◌, [], map, filter, IfOk, option_map};
 ghost use Rattle.stream_objects.specs.Objects.{is_kind, start_of};
-ghost use Rattle.doc_model.specs.Groups.{declarations_in, data_in};
+ghost use Rattle.doc_model.specs.wire.Groups.{declarations_in, data_in};
 ghost use Rattle.data_elements.specs.Answers.{Gives};
 ghost use Rattle.data_elements.specs.Checking.{collect_from, or_broken};
 ghost use Rattle.data_elements.specs.Rows.{data_row, reference_row};

@@ -1,7 +1,7 @@
 // Knowledge: the ranges of serial numbers that a client names.
 ghost use Rattle.std.specs.Prelude.{◌≡◌, List, [], ◌∷◌, ◌++◌, Ok};
 ghost use Rattle.stream_objects.specs.Gathering.{gather};
-ghost use Rattle.doc_model.specs.KnowledgeParts.{guid_row};
+ghost use Rattle.doc_model.specs.readers.KnowledgeParts.{guid_row};
 ghost use Rattle.data_elements.specs.Answers.{Gives, GivesTo, IsKnowledgeAnswer, IsOnly};
 ghost use Rattle.data_elements.specs.KnowledgeReading.{range_row, entry_row, added_at, cells_at, specialized_at, knowledge_at};
 

@@ -7,16 +7,16 @@ ghost use Rattle.std.specs.List.{AllByRecursion};
 ghost use Rattle.compact_values.specs.Ids.{FitsGuid, FitsSerial};
 ghost use Rattle.compact_values.specs.declared.guid.Guid.{Guid};
 ghost use Rattle.compact_values.specs.declared.ids.Serial.{Serial};
-ghost use Rattle.doc_model.specs.Elements.{IsElementWith, IsPackage};
-ghost use Rattle.doc_model.specs.Knowledges.{IsKnowledge};
-ghost use Rattle.doc_model.specs.FittingElements.{FitsElement, FitsNumbered, FitsRange};
-ghost use Rattle.doc_model.specs.Weights.{objects_written, package_objects};
-ghost use Rattle.doc_model.specs.WrittenElements.{element_bytes, package_bytes, knowledge_bytes};
+ghost use Rattle.doc_model.specs.wire.Elements.{IsElementWith, IsPackage};
+ghost use Rattle.doc_model.specs.wire.Knowledges.{IsKnowledge};
+ghost use Rattle.doc_model.specs.wire.FittingElements.{FitsElement, FitsNumbered, FitsRange};
+ghost use Rattle.doc_model.specs.rules.Weights.{objects_written, package_objects};
+ghost use Rattle.doc_model.specs.wire.WrittenElements.{element_bytes, package_bytes, knowledge_bytes};
 ghost use Rattle.doc_model.specs.declared.element.Element.{Element};
 ghost use Rattle.doc_model.specs.declared.element.NumberedElement.{NumberedElement};
 ghost use Rattle.doc_model.specs.declared.knowledge.Knowledge.{Knowledge};
 ghost use Rattle.data_elements.specs.StandsAs.{StandsAs};
-ghost use Rattle.doc_model.specs.Limits.{most_objects};
+ghost use Rattle.doc_model.specs.rules.Limits.{most_objects};
 
 /// An element of any kind, with its serial number.
 pub fn written_element()

@@ -4,7 +4,7 @@ ghost use Rattle.std.specs.List.{flat_map};
 ghost use Rattle.compact_values.specs.Compact.{compact};
 ghost use Rattle.compact_values.specs.Ids.{exguid, serial};
 ghost use Rattle.stream_objects.specs.Written.{started};
-ghost use Rattle.doc_model.specs.WrittenElements.{kind_number, body_bytes, element_bytes, numbered_bytes, package_bytes, range_bytes, ranges_bytes, cell_knowledge_bytes, knowledge_bytes};
+ghost use Rattle.doc_model.specs.wire.WrittenElements.{kind_number, body_bytes, element_bytes, numbered_bytes, package_bytes, range_bytes, ranges_bytes, cell_knowledge_bytes, knowledge_bytes};
 
 use crate::write_group::{write_blob, write_objects};
 use compact_values::{
@@ -38,7 +38,7 @@ fn kind_number(body: &Body) -> u64
 }
 
 // The children of an element, in the order in which they are written. Without memory only a part of them is written.
-#[tactic(auto, unfolding(doc_model::specs::WrittenElements::body_bytes))]
+#[tactic(auto, unfolding(doc_model::specs::wire::WrittenElements::body_bytes))]
 fn write_body(out: &mut Octets, body: &Body) -> Result<(), NoMemory>
     ensures ok { OnOk result (out.new ≡ out.old ++ body_bytes body.now) }
     ensures err { OnErr result (take (length out.old) out.new ≡ out.old) }
@@ -116,7 +116,7 @@ fn write_head(out: &mut Octets, element: &Element, number: &Serial) -> Result<()
 }
 
 // An element. Without memory only a part of it is written.
-#[tactic(auto, unfolding(doc_model::specs::WrittenElements::element_bytes))]
+#[tactic(auto, unfolding(doc_model::specs::wire::WrittenElements::element_bytes))]
 fn append_element(out: &mut Octets, element: &Element, number: &Serial) -> Result<(), NoMemory>
     ensures ok { OnOk result (out.new ≡ out.old ++ element_bytes element.now number.now) }
     ensures err { OnErr result (take (length out.old) out.new ≡ out.old) }
@@ -141,7 +141,7 @@ pub fn write_element(out: &mut Octets, element: &Element, serial: &Serial) -> Re
 }
 
 // An element with its number, of a document's GUID.
-#[tactic(auto, unfolding(doc_model::specs::WrittenElements::numbered_bytes))]
+#[tactic(auto, unfolding(doc_model::specs::wire::WrittenElements::numbered_bytes))]
 fn append_numbered(out: &mut Octets, guid: Guid, numbered: &NumberedElement) -> Result<(), NoMemory>
     ensures ok { OnOk result (out.new ≡ out.old ++ numbered_bytes guid numbered.now) }
     ensures err { OnErr result (take (length out.old) out.new ≡ out.old) }
@@ -165,7 +165,7 @@ fn append_each(out: &mut Octets, guid: Guid, elements: &[NumberedElement]) -> Re
 }
 
 // A package. Without memory only a part of it is written.
-#[tactic(auto, unfolding(doc_model::specs::WrittenElements::package_bytes))]
+#[tactic(auto, unfolding(doc_model::specs::wire::WrittenElements::package_bytes))]
 fn append_package(
     out: &mut Octets,
     guid: Guid,
@@ -194,7 +194,7 @@ pub fn write_package(out: &mut Octets, guid: Guid, elements: &Numbered) -> Resul
 }
 
 // A range.
-#[tactic(auto, unfolding(doc_model::specs::WrittenElements::range_bytes, stream_objects::specs::Written::started))]
+#[tactic(auto, unfolding(doc_model::specs::wire::WrittenElements::range_bytes, stream_objects::specs::Written::started))]
 fn append_range(out: &mut Octets, range: &Range) -> Result<(), NoMemory>
     ensures ok { OnOk result (out.new ≡ out.old ++ range_bytes range.now) }
     ensures err { OnErr result (take (length out.old) out.new ≡ out.old) }
@@ -218,7 +218,7 @@ fn append_each_range(out: &mut Octets, ranges: &[Range]) -> Result<(), NoMemory>
 }
 
 // The object of the ranges.
-#[tactic(auto, unfolding(doc_model::specs::WrittenElements::ranges_bytes))]
+#[tactic(auto, unfolding(doc_model::specs::wire::WrittenElements::ranges_bytes))]
 fn append_ranges(out: &mut Octets, ranges: &[Range]) -> Result<(), NoMemory>
     ensures ok { OnOk result (out.new ≡ out.old ++ ranges_bytes ranges.now) }
     ensures err { OnErr result (take (length out.old) out.new ≡ out.old) }
@@ -229,7 +229,7 @@ fn append_ranges(out: &mut Octets, ranges: &[Range]) -> Result<(), NoMemory>
 }
 
 // The object of cell knowledge.
-#[tactic(auto, unfolding(doc_model::specs::WrittenElements::cell_knowledge_bytes))]
+#[tactic(auto, unfolding(doc_model::specs::wire::WrittenElements::cell_knowledge_bytes))]
 fn append_cell_knowledge(out: &mut Octets, ranges: &[Range]) -> Result<(), NoMemory>
     ensures ok { OnOk result (out.new ≡ out.old ++ cell_knowledge_bytes ranges.now) }
     ensures err { OnErr result (take (length out.old) out.new ≡ out.old) }
@@ -245,7 +245,7 @@ fn append_cell_knowledge(out: &mut Octets, ranges: &[Range]) -> Result<(), NoMem
 }
 
 // Knowledge. Without memory only a part of it is written.
-#[tactic(auto, unfolding(doc_model::specs::WrittenElements::knowledge_bytes))]
+#[tactic(auto, unfolding(doc_model::specs::wire::WrittenElements::knowledge_bytes))]
 fn append_knowledge(out: &mut Octets, ranges: &[Range]) -> Result<(), NoMemory>
     ensures ok { OnOk result (out.new ≡ out.old ++ knowledge_bytes (record { ranges = ranges.now })) }
     ensures err { OnErr result (take (length out.old) out.new ≡ out.old) }

@@ -5,7 +5,7 @@ ghost use Rattle.std.specs.List.{flat_map};
 ghost use Rattle.compact_values.specs.Compact.{compact};
 ghost use Rattle.compact_values.specs.Ids.{exguid, cell_id};
 ghost use Rattle.compact_values.specs.Items.{item, array};
-ghost use Rattle.doc_model.specs.WrittenElements.{size_if_any, declaration_kind, declaration_fields, declaration_bytes, data_kind, data_fields, data_bytes, declarations_bytes, datas_bytes, blob_bytes};
+ghost use Rattle.doc_model.specs.wire.WrittenElements.{size_if_any, declaration_kind, declaration_fields, declaration_bytes, data_kind, data_fields, data_bytes, declarations_bytes, datas_bytes, blob_bytes};
 
 use compact_values::{
     ExGuid, NoMemory, Octets, write_cells, write_compact, write_exguid, write_ids, write_item,
@@ -79,7 +79,7 @@ fn declaration_kind(content: &Content) -> u16
 }
 
 // The declaration of an object.
-#[tactic(auto, unfolding(doc_model::specs::WrittenElements::declaration_bytes, stream_objects::specs::Written::started))]
+#[tactic(auto, unfolding(doc_model::specs::wire::WrittenElements::declaration_bytes, stream_objects::specs::Written::started))]
 fn write_declaration(out: &mut Octets, object: &Object) -> Result<(), NoMemory>
     ensures ok { OnOk result (out.new ≡ out.old ++ declaration_bytes object.now) }
     ensures err { OnErr result (take (length out.old) out.new ≡ out.old) }
@@ -105,7 +105,7 @@ fn write_each_declaration(out: &mut Octets, objects: &[Object]) -> Result<(), No
 }
 
 // The declarations of a group.
-#[tactic(auto, unfolding(doc_model::specs::WrittenElements::declarations_bytes, stream_objects::specs::Written::started))]
+#[tactic(auto, unfolding(doc_model::specs::wire::WrittenElements::declarations_bytes, stream_objects::specs::Written::started))]
 fn write_declarations(out: &mut Octets, objects: &[Object]) -> Result<(), NoMemory>
     ensures ok { OnOk result (out.new ≡ out.old ++ declarations_bytes objects.now) }
     ensures err { OnErr result (take (length out.old) out.new ≡ out.old) }
@@ -139,7 +139,7 @@ fn data_kind(content: &Content) -> u16
 }
 
 // The data of an object. No memory holds more bytes than a length can tell.
-#[tactic(auto, unfolding(doc_model::specs::WrittenElements::data_bytes, stream_objects::specs::Written::started))]
+#[tactic(auto, unfolding(doc_model::specs::wire::WrittenElements::data_bytes, stream_objects::specs::Written::started))]
 fn write_data(out: &mut Octets, object: &Object) -> Result<(), NoMemory>
     ensures ok { OnOk result (out.new ≡ out.old ++ data_bytes object.now) }
     ensures err { OnErr result (take (length out.old) out.new ≡ out.old) }
@@ -164,7 +164,7 @@ fn write_each_data(out: &mut Octets, objects: &[Object]) -> Result<(), NoMemory>
 }
 
 // The data of a group.
-#[tactic(auto, unfolding(doc_model::specs::WrittenElements::datas_bytes, stream_objects::specs::Written::started))]
+#[tactic(auto, unfolding(doc_model::specs::wire::WrittenElements::datas_bytes, stream_objects::specs::Written::started))]
 fn write_datas(out: &mut Octets, objects: &[Object]) -> Result<(), NoMemory>
     ensures ok { OnOk result (out.new ≡ out.old ++ datas_bytes objects.now) }
     ensures err { OnErr result (take (length out.old) out.new ≡ out.old) }
@@ -184,7 +184,7 @@ pub fn write_objects(out: &mut Octets, objects: &[Object]) -> Result<(), NoMemor
 }
 
 // The content of a blob. No memory holds more bytes than a length can tell.
-#[tactic(auto, unfolding(doc_model::specs::WrittenElements::blob_bytes, stream_objects::specs::Written::started))]
+#[tactic(auto, unfolding(doc_model::specs::wire::WrittenElements::blob_bytes, stream_objects::specs::Written::started))]
 pub fn write_blob(out: &mut Octets, bytes: &[u8]) -> Result<(), NoMemory>
     ensures ok { OnOk result (out.new ≡ out.old ++ blob_bytes bytes.now) }
     ensures err { OnErr result (take (length out.old) out.new ≡ out.old) }

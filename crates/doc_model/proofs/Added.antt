@@ -8,9 +8,9 @@ use Rattle.doc_model.specs.declared.element.Element.{Element}
 use Rattle.doc_model.specs.declared.element.Body.{Body}
 use Rattle.doc_model.specs.declared.element.Name.{Name}
 use Rattle.doc_model.specs.declared.element.RevisionMap.{RevisionMap}
-use Rattle.doc_model.specs.Finding.{Mappings, find_element, said, as_index, as_storage, as_cell, as_group, as_blob, as_revision}
-use Rattle.doc_model.specs.Laws.{AllNamed, NamesStay, ChainStays, FileStays}
-use Rattle.doc_model.specs.Reached.{names, names_below, mapping_of, revision_name, storage_name, cell_name, group_name, blob_name, named_revisions, named_groups, named_blobs, cells_of, currents_of}
+use Rattle.doc_model.specs.rules.Finding.{Mappings, find_element, said, as_index, as_storage, as_cell, as_group, as_blob, as_revision}
+use Rattle.doc_model.specs.laws.Documents.{AllNamed, NamesStay, ChainStays, FileStays}
+use Rattle.doc_model.specs.rules.Reached.{names, names_below, mapping_of, revision_name, storage_name, cell_name, group_name, blob_name, named_revisions, named_groups, named_blobs, cells_of, currents_of}
 use Rattle.doc_model.proofs.Agree.{names-same, root-chain-same, file-same}
 use Rattle.doc_model.proofs.EachItem.{each-as, each-append, each-both, all-each}
 

@@ -17,10 +17,10 @@ use Rattle.doc_model.specs.declared.element.Root.{Root}
 use Rattle.doc_model.specs.declared.element.Object.{Object}
 use Rattle.doc_model.specs.declared.element.Content.{Content}
 use Rattle.doc_model.specs.declared.element.Content.TheVariants.{Inline, Apart}
-use Rattle.doc_model.specs.FileObjects.{root_file}
-use Rattle.doc_model.specs.Files.{current_revision, root_chain, objects_of, own_bytes, as_file_object, file_objects, root_object, file_of_chain, file, group_objects, revision_objects}
-use Rattle.doc_model.specs.Finding.{first, find_element, said, firsts, Manifest, Mappings, as_index, as_storage, as_cell, as_revision, as_group, as_blob}
-use Rattle.doc_model.specs.Reached.{name, mapping_of, manifest_of, base_of, named_along, named_revisions, named_groups, named_blobs, each_once, reached, reached_from, enough, longest, chain, chains_end, revision_name, cell_name, storage_name, group_name, blob_name, groups_of, groups_by, blobs_of, blob_of, cells_of, same_cells, current_of, currents_of, names, names_below}
+use Rattle.doc_model.specs.rules.FileObjects.{root_file}
+use Rattle.doc_model.specs.rules.Files.{current_revision, root_chain, objects_of, own_bytes, as_file_object, file_objects, root_object, file_of_chain, file, group_objects, revision_objects}
+use Rattle.doc_model.specs.rules.Finding.{first, find_element, said, firsts, Manifest, Mappings, as_index, as_storage, as_cell, as_revision, as_group, as_blob}
+use Rattle.doc_model.specs.rules.Reached.{name, mapping_of, manifest_of, base_of, named_along, named_revisions, named_groups, named_blobs, each_once, reached, reached_from, enough, longest, chain, chains_end, revision_name, cell_name, storage_name, group_name, blob_name, groups_of, groups_by, blobs_of, blob_of, cells_of, same_cells, current_of, currents_of, names, names_below}
 use Rattle.doc_model.proofs.EachItem.{each-front, each-back, each-map, each-flat, each-flat-map, each-both, each-as, map-same, flat-same, all-same}
 use Rattle.doc_model.proofs.Firsts.{first-kept}
 use Rattle.doc_model.proofs.Once.{once-each}

@@ -3,7 +3,7 @@ use Rattle.std.proofs.Common.{◌≡◌, sym, ◌∙◌, ap, Bool, false, cond, 
 use Rattle.std.proofs.lemmas.List.{append-nil}
 use Rattle.std.specs.List.{AllByRecursion as Each, IsDistinct}
 use Rattle.compact_values.specs.IdPlaces.{with_new}
-use Rattle.doc_model.specs.Finding.{firsts}
+use Rattle.doc_model.specs.rules.Finding.{firsts}
 use Rattle.doc_model.proofs.EachItem.{each-append, each-as, each-both, each-map, each-none}
 
 module _ {K X : Type 0} (same : K → K → Bool) (flips : (a b : K) → same a b ≡ same b a) (key : X → K) where

@@ -8,11 +8,11 @@ use Rattle.doc_model.specs.declared.call.Call.{Call}
 use Rattle.doc_model.specs.declared.doc.Doc.{Doc}
 use Rattle.doc_model.specs.declared.reply.Submitted.{Submitted}
 use Rattle.doc_model.specs.declared.reply.Submitted.TheVariants.{Answered, DiskFault, JournalFull, NoMemory}
-use Rattle.doc_model.specs.Apply.{apply, replay}
-use Rattle.doc_model.specs.Histories.{History, EachMoves, IsHistory, Placed, GoOn, Stands, turn_at, moves, Attempt, placed, answered, is_answered, has_moved, HasCause, Tried}
-use Rattle.doc_model.specs.HistoryLaws.{gained, Became, TriedNothing, TriedLater, TriedWithNext, HistoryAtFirst, HistoryWithGained}
-use Rattle.doc_model.specs.Sound.{Valid}
-use Rattle.doc_model.specs.Turns.{Turn}
+use Rattle.doc_model.specs.rules.Apply.{apply, replay}
+use Rattle.doc_model.specs.rules.Histories.{History, EachMoves, IsHistory, Placed, GoOn, Stands, turn_at, moves, Attempt, placed, answered, is_answered, has_moved, HasCause, Tried}
+use Rattle.doc_model.specs.laws.Histories.{gained, Became, TriedNothing, TriedLater, TriedWithNext, HistoryAtFirst, HistoryWithGained}
+use Rattle.doc_model.specs.rules.Sound.{Valid}
+use Rattle.doc_model.specs.rules.Turns.{Turn}
 use Rattle.doc_model.proofs.EachItem.{each-as, each-both}
 use Rattle.doc_model.proofs.Growing.{stands-nowhere, stands-later, stands-with-next, turn-longer, turn-end, same-order, next-order, are-in}
 

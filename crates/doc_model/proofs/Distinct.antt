@@ -2,7 +2,7 @@
 use Rattle.std.proofs.Common.{◌≡◌, refl, ◌∙◌, Bool, true, false, cond, List, [], ◌∷◌, ◌++◌, map, filter, fold}
 use Rattle.std.specs.List.{AllByRecursion as Each, IsDistinct, list_any}
 use Rattle.compact_values.specs.IdPlaces.{with_new}
-use Rattle.doc_model.specs.Finding.{firsts}
+use Rattle.doc_model.specs.rules.Finding.{firsts}
 use Rattle.doc_model.proofs.EachItem.{each-append, each-as, each-map, each-mapped, each-filter, none-each}
 
 module _ {K : Type 0} (same : K → K → Bool) where

@@ -9,14 +9,14 @@ use Rattle.compact_values.proofs.SameIds.{id-same, same-id}
 use Rattle.doc_model.specs.declared.element.Element.{Element}
 use Rattle.doc_model.specs.declared.element.Name.{Name}
 use Rattle.doc_model.specs.declared.doc.Commit.{Commit}
-use Rattle.doc_model.specs.Finding.{find_element, numbered_from}
-use Rattle.doc_model.specs.Files.{file}
-use Rattle.doc_model.specs.Laws.{DownloadsTheFile, DownloadsWhatIsReached, DownloadsNothing, ReadsTheFile}
-use Rattle.doc_model.specs.Pulls.{stored_index, named_ids, lacking, is_lacking}
-use Rattle.doc_model.specs.Reached.{is_among, names, reached, reached_from}
+use Rattle.doc_model.specs.rules.Finding.{find_element, numbered_from}
+use Rattle.doc_model.specs.rules.Files.{file}
+use Rattle.doc_model.specs.laws.Documents.{DownloadsTheFile, DownloadsWhatIsReached, DownloadsNothing, ReadsTheFile}
+use Rattle.doc_model.specs.rules.Pulls.{stored_index, named_ids, lacking, is_lacking}
+use Rattle.doc_model.specs.rules.Reached.{is_among, names, reached, reached_from}
 use Rattle.doc_model.specs.declared.doc.Doc.{Doc}
-use Rattle.doc_model.specs.Sound.{IsSoundCommit}
-use Rattle.doc_model.specs.Versions.{last_file}
+use Rattle.doc_model.specs.rules.Sound.{IsSoundCommit}
+use Rattle.doc_model.specs.rules.Versions.{last_file}
 use Rattle.doc_model.specs.declared.reply.Reply.TheVariants.{File}
 use Rattle.std.specs.Prelude.{is_some}
 use Rattle.doc_model.proofs.Agree.{file-same}

@@ -1,9 +1,9 @@
 -- The replies of calls that stand in the history of a sound document fit.
 use Rattle.std.proofs.Common.{sym, get_or, take}
 use Rattle.std.proofs.lemmas.List.Elements.{All-take}
-use Rattle.doc_model.specs.Apply.{replay}
-use Rattle.doc_model.specs.HistoryLaws.{FitsWhatStands}
-use Rattle.doc_model.specs.Sound.{Valid}
+use Rattle.doc_model.specs.rules.Apply.{replay}
+use Rattle.doc_model.specs.laws.Histories.{FitsWhatStands}
+use Rattle.doc_model.specs.rules.Sound.{Valid}
 use Rattle.doc_model.proofs.Following.{histories-follow}
 
 pub fits-what-stands : FitsWhatStands

@@ -5,10 +5,10 @@ use Rattle.std.proofs.lemmas.List.Elements.{All-take, recursion_from_All, All-fr
 use Rattle.doc_model.specs.declared.doc.Doc.{Doc}
 use Rattle.doc_model.specs.declared.reply.Submitted.{Submitted}
 use Rattle.doc_model.specs.declared.reply.Submitted.TheVariants.{Answered, DiskFault, JournalFull, NoMemory}
-use Rattle.doc_model.specs.Apply.{replay}
-use Rattle.doc_model.specs.Histories.{History, Fits, HasCause, Attempt, Placed, answered, turn_at}
-use Rattle.doc_model.specs.HistoryLaws.{FitsWhatWasTried, MovesByKind}
-use Rattle.doc_model.specs.Sound.{Sound, Valid}
+use Rattle.doc_model.specs.rules.Apply.{replay}
+use Rattle.doc_model.specs.rules.Histories.{History, Fits, HasCause, Attempt, Placed, answered, turn_at}
+use Rattle.doc_model.specs.laws.Histories.{FitsWhatWasTried, MovesByKind}
+use Rattle.doc_model.specs.rules.Sound.{Sound, Valid}
 use Rattle.doc_model.proofs.Attempts.{Replied, each-replied, Caused}
 use Rattle.doc_model.proofs.EachItem.{each-as, each-both}
 use Rattle.doc_model.proofs.Following.{histories-follow}

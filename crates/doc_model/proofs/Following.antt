@@ -11,17 +11,17 @@ use Rattle.doc_model.specs.declared.doc.Doc.{Doc}
 use Rattle.doc_model.specs.declared.doc.Commit.{Commit}
 use Rattle.doc_model.specs.declared.element.Element.{Element}
 use Rattle.doc_model.specs.declared.reply.Code.{Code}
-use Rattle.doc_model.specs.Apply.{apply, by_kind, replay}
-use Rattle.doc_model.specs.Drawing.{can_draw}
-use Rattle.doc_model.specs.Editing.{edit}
-use Rattle.doc_model.specs.Files.{file}
-use Rattle.doc_model.specs.Laws.{Follows, CallsFollow, HistoriesFollow}
-use Rattle.doc_model.specs.Locking.{do_lock}
-use Rattle.doc_model.specs.Locks.{live, allowed}
-use Rattle.doc_model.specs.Puts.{is_part, part_refusal, commit_refusal, kept, committed, fresh, sent_to}
-use Rattle.doc_model.specs.Sound.{IsSoundCommit, Sound, Valid}
-use Rattle.doc_model.specs.Turns.{Turn, unless}
-use Rattle.doc_model.specs.Versions.{version, restore_version, restore_refusal, restored, index_like, new_index}
+use Rattle.doc_model.specs.rules.Apply.{apply, by_kind, replay}
+use Rattle.doc_model.specs.rules.Drawing.{can_draw}
+use Rattle.doc_model.specs.rules.Editing.{edit}
+use Rattle.doc_model.specs.rules.Files.{file}
+use Rattle.doc_model.specs.laws.Documents.{Follows, CallsFollow, HistoriesFollow}
+use Rattle.doc_model.specs.rules.Locking.{do_lock}
+use Rattle.doc_model.specs.rules.Locks.{live, allowed}
+use Rattle.doc_model.specs.rules.Puts.{is_part, part_refusal, commit_refusal, kept, committed, fresh, sent_to}
+use Rattle.doc_model.specs.rules.Sound.{IsSoundCommit, Sound, Valid}
+use Rattle.doc_model.specs.rules.Turns.{Turn, unless}
+use Rattle.doc_model.specs.rules.Versions.{version, restore_version, restore_refusal, restored, index_like, new_index}
 use Rattle.doc_model.proofs.Added.{file-stays}
 use Rattle.doc_model.proofs.EachItem.{each-as, each-both, each-front}
 use Rattle.doc_model.proofs.KeepsSound.{keeps-sound}

@@ -8,10 +8,10 @@ use Rattle.std.proofs.lemmas.Option.{slice_get_within}
 use Rattle.doc_model.specs.declared.call.Call.{Call}
 use Rattle.doc_model.specs.declared.doc.Doc.{Doc}
 use Rattle.doc_model.specs.declared.reply.Submitted.TheVariants.{Answered}
-use Rattle.doc_model.specs.Apply.{apply, replay}
-use Rattle.doc_model.specs.Histories.{History, Placed, GoOn, Stands, calls_by, moved_calls, moves, turn_at}
-use Rattle.doc_model.specs.HistoryLaws.{gained, StandsNowhere, StandsLater, StandsWithNext}
-use Rattle.doc_model.specs.Turns.{Turn}
+use Rattle.doc_model.specs.rules.Apply.{apply, replay}
+use Rattle.doc_model.specs.rules.Histories.{History, Placed, GoOn, Stands, calls_by, moved_calls, moves, turn_at}
+use Rattle.doc_model.specs.laws.Histories.{gained, StandsNowhere, StandsLater, StandsWithNext}
+use Rattle.doc_model.specs.rules.Turns.{Turn}
 
 pub stands-nowhere : StandsNowhere
 stands-nowhere doc history n e = record {

@@ -13,9 +13,9 @@ use Rattle.doc_model.specs.declared.reply.Reply.{Reply}
 use Rattle.doc_model.specs.declared.reply.Submitted.{Submitted}
 use Rattle.doc_model.specs.declared.reply.Submitted.TheVariants.{Answered, DiskFault}
 use Rattle.doc_model.specs.declared.reply.Reply.TheVariants as reply
-use Rattle.doc_model.specs.Apply.{empty_doc}
-use Rattle.doc_model.specs.Histories.{History, EachMoves, Placed, Stands, moves, turn_at, Attempt, Tried}
-use Rattle.doc_model.specs.HistoryLaws.{changes_of}
+use Rattle.doc_model.specs.rules.Apply.{empty_doc}
+use Rattle.doc_model.specs.rules.Histories.{History, EachMoves, Placed, Stands, moves, turn_at, Attempt, Tried}
+use Rattle.doc_model.specs.laws.Histories.{changes_of}
 use Rattle.doc_model.proofs.Attempts.{tried-nothing, tried-with-next}
 use Rattle.doc_model.proofs.Growing.{stands-nowhere, stands-later, stands-with-next}
 

@@ -12,13 +12,13 @@ use Rattle.doc_model.specs.declared.lock.LockStep.{LockStep}
 use Rattle.doc_model.specs.declared.lock.LockStep.TheVariants as step
 use Rattle.doc_model.specs.declared.lock.Member.{Member}
 use Rattle.doc_model.specs.declared.reply.Code.TheVariants as code
-use Rattle.doc_model.specs.Apply.{by_kind}
-use Rattle.doc_model.specs.Drawing.{draw}
-use Rattle.doc_model.specs.LockLaws.{EndsExclusive, SetsExclusive, StaysExclusive, ByStep, KeepsExclusive}
-use Rattle.doc_model.specs.LockSteps.{LockTurn, becomes, refuses, stays, lock_turn, lock_after, lock_moved, member}
-use Rattle.doc_model.specs.Locks.{live, shared_by, is_live}
-use Rattle.doc_model.specs.Puts.{put}
-use Rattle.doc_model.specs.Versions.{restore}
+use Rattle.doc_model.specs.rules.Apply.{by_kind}
+use Rattle.doc_model.specs.rules.Drawing.{draw}
+use Rattle.doc_model.specs.laws.Locks.{EndsExclusive, SetsExclusive, StaysExclusive, ByStep, KeepsExclusive}
+use Rattle.doc_model.specs.rules.LockSteps.{LockTurn, becomes, refuses, stays, lock_turn, lock_after, lock_moved, member}
+use Rattle.doc_model.specs.rules.Locks.{live, shared_by, is_live}
+use Rattle.doc_model.specs.rules.Puts.{put}
+use Rattle.doc_model.specs.rules.Versions.{restore}
 use Rattle.doc_model.proofs.OtherLocks.{put-lock, draw-lock, restore-lock}
 
 -- by a test, and by whether two ids are one

@@ -16,18 +16,18 @@ use Rattle.doc_model.specs.declared.editor.Editor.{Editor}
 use Rattle.doc_model.specs.declared.element.Element.{Element}
 use Rattle.doc_model.specs.declared.lock.LockRecord.{LockRecord}
 use Rattle.doc_model.specs.declared.reply.Code.{Code}
-use Rattle.doc_model.specs.Apply.{by_kind}
-use Rattle.doc_model.specs.Editing.{edit}
-use Rattle.doc_model.specs.Drawing.{draw, can_draw, last_number}
-use Rattle.doc_model.specs.Laws.{KeepsSound, EmptyIsSound}
-use Rattle.doc_model.specs.Locking.{do_lock}
-use Rattle.doc_model.specs.Limits.{most_added, most_added_weight, most_objects}
-use Rattle.doc_model.specs.Locks.{live, allowed}
-use Rattle.doc_model.specs.Puts.{put, is_part, part_reasons, commit_reasons, kept, committed, sent_to, added_by, fresh, other_parts, has_invalid, too_many_parts}
-use Rattle.doc_model.specs.Sound.{IsSoundElement, IsSoundCommit, AreSoundParts, AreSoundMembers, AreSoundEditors, Sound, IsValidSub}
-use Rattle.doc_model.specs.Turns.{Turn, first_refusal, unless}
-use Rattle.doc_model.specs.Versions.{version, restore, restore_version, restore_reasons, restored, added_by_restore}
-use Rattle.doc_model.specs.Weights.{objects_written, weight_of}
+use Rattle.doc_model.specs.rules.Apply.{by_kind}
+use Rattle.doc_model.specs.rules.Editing.{edit}
+use Rattle.doc_model.specs.rules.Drawing.{draw, can_draw, last_number}
+use Rattle.doc_model.specs.laws.Documents.{KeepsSound, EmptyIsSound}
+use Rattle.doc_model.specs.rules.Locking.{do_lock}
+use Rattle.doc_model.specs.rules.Limits.{most_added, most_added_weight, most_objects}
+use Rattle.doc_model.specs.rules.Locks.{live, allowed}
+use Rattle.doc_model.specs.rules.Puts.{put, is_part, part_reasons, commit_reasons, kept, committed, sent_to, added_by, fresh, other_parts, has_invalid, too_many_parts}
+use Rattle.doc_model.specs.rules.Sound.{IsSoundElement, IsSoundCommit, AreSoundParts, AreSoundMembers, AreSoundEditors, Sound, IsValidSub}
+use Rattle.doc_model.specs.rules.Turns.{Turn, first_refusal, unless}
+use Rattle.doc_model.specs.rules.Versions.{version, restore, restore_version, restore_reasons, restored, added_by_restore}
+use Rattle.doc_model.specs.rules.Weights.{objects_written, weight_of}
 use Rattle.doc_model.proofs.Distinct.{distinct-none}
 use Rattle.doc_model.proofs.EachItem.{each-as}
 use Rattle.doc_model.proofs.LastCommit.{All-version}

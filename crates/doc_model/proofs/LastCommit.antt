@@ -6,8 +6,8 @@ use Rattle.std.proofs.lemmas.Option.{slice_get-get_or, slice_get_within, get_or_
 use Rattle.std.specs.List.{All, slice_get}
 use Rattle.compact_values.specs.declared.ids.ExGuid.TheVariants.{Null}
 use Rattle.doc_model.specs.declared.doc.Commit.{Commit}
-use Rattle.doc_model.specs.Pulls.{stored_index}
-use Rattle.doc_model.specs.Versions.{version}
+use Rattle.doc_model.specs.rules.Pulls.{stored_index}
+use Rattle.doc_model.specs.rules.Versions.{version}
 
 pub some-commits : (cs : List Commit) → cs ≢ [] → (length cs == 0) ≡ false
 some-commits [] h = absurd (h refl)

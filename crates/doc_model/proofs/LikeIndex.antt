@@ -12,11 +12,11 @@ use Rattle.doc_model.specs.declared.element.Body.{Body}
 use Rattle.doc_model.specs.declared.element.Body.TheVariants.{Index}
 use Rattle.doc_model.specs.declared.element.Element.{Element}
 use Rattle.doc_model.specs.declared.element.Name.{Name}
-use Rattle.doc_model.specs.Files.{file, file_of_chain, current_revision}
-use Rattle.doc_model.specs.Finding.{Mappings, find_element, said, as_index}
-use Rattle.doc_model.specs.Laws.{AllNamed}
-use Rattle.doc_model.specs.Reached.{chain, chains_end, longest, name, names, names_below, reached, reached_from}
-use Rattle.doc_model.specs.Versions.{index_like}
+use Rattle.doc_model.specs.rules.Files.{file, file_of_chain, current_revision}
+use Rattle.doc_model.specs.rules.Finding.{Mappings, find_element, said, as_index}
+use Rattle.doc_model.specs.laws.Documents.{AllNamed}
+use Rattle.doc_model.specs.rules.Reached.{chain, chains_end, longest, name, names, names_below, reached, reached_from}
+use Rattle.doc_model.specs.rules.Versions.{index_like}
 use Rattle.doc_model.proofs.Added.{same-added}
 use Rattle.doc_model.proofs.EachItem.{all-each}
 use Rattle.doc_model.proofs.SoundCommits.{reached-named}

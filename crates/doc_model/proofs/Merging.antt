@@ -3,9 +3,9 @@ use Rattle.std.proofs.Common.{◌≡◌, ℕ, suc, ◌<◌, ◌≤◌, ◌+◌, 
 use Rattle.std.proofs.lemmas.Bool.{and_from, and_left, and_right, cond-true, cond-false, not_from_true}
 use Rattle.doc_model.specs.declared.call.Call.{Call}
 use Rattle.doc_model.specs.declared.doc.Doc.{Doc}
-use Rattle.doc_model.specs.Apply.{apply}
-use Rattle.doc_model.specs.Histories.{History, Placed, GoOn}
-use Rattle.doc_model.specs.HistoryLaws.{Ran, ran_by}
+use Rattle.doc_model.specs.rules.Apply.{apply}
+use Rattle.doc_model.specs.rules.Histories.{History, Placed, GoOn}
+use Rattle.doc_model.specs.laws.Histories.{Ran, ran_by}
 
 -- the change of a history, as it runs
 abbrev pub changed : ℕ → Doc → ℕ × Call → Ran

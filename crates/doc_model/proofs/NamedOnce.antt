@@ -7,11 +7,11 @@ use Rattle.compact_values.specs.SameIds.{same_id}
 use Rattle.doc_model.specs.declared.element.Element.{Element}
 use Rattle.doc_model.specs.declared.element.Name.{Name}
 use Rattle.doc_model.specs.declared.element.Object.{Object}
-use Rattle.doc_model.specs.Finding.{Mappings}
-use Rattle.doc_model.specs.FileObjects.{find_object}
-use Rattle.doc_model.specs.Files.{as_file_object, objects_of}
-use Rattle.doc_model.specs.NamingLaws.{OnceIsEnough, ObjectOfTheFile}
-use Rattle.doc_model.specs.Reached.{blob_name, blobs_of, cell_name, cells_of, currents_of, each_once, enough, group_name, groups_of, named_along, revision_name, storage_name}
+use Rattle.doc_model.specs.rules.Finding.{Mappings}
+use Rattle.doc_model.specs.rules.FileObjects.{find_object}
+use Rattle.doc_model.specs.rules.Files.{as_file_object, objects_of}
+use Rattle.doc_model.specs.laws.Naming.{OnceIsEnough, ObjectOfTheFile}
+use Rattle.doc_model.specs.rules.Reached.{blob_name, blobs_of, cell_name, cells_of, currents_of, each_once, enough, group_name, groups_of, named_along, revision_name, storage_name}
 use Rattle.doc_model.proofs.Once.{flat-once, find-map-once}
 
 find-parts : {X : Type 0} (p : X → Bool) (xs xs' ys ys' : List X) → find p xs ≡ find p xs' → find p ys ≡ find p ys' → find p (xs ++ ys) ≡ find p (xs' ++ ys')

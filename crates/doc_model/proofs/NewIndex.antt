@@ -14,16 +14,16 @@ use Rattle.doc_model.specs.declared.doc.Commit.{Commit}
 use Rattle.doc_model.specs.declared.doc.Doc.{Doc}
 use Rattle.doc_model.specs.declared.reply.Code.{Code}
 use Rattle.doc_model.specs.declared.reply.Code.TheVariants.{AlreadyLocked}
-use Rattle.doc_model.specs.Apply.{by_kind}
-use Rattle.doc_model.specs.Drawing.{can_draw}
-use Rattle.doc_model.specs.Editing.{edit}
-use Rattle.doc_model.specs.Laws.{CommitsNewIndex}
-use Rattle.doc_model.specs.Locking.{do_lock}
-use Rattle.doc_model.specs.Locks.{live, allowed}
-use Rattle.doc_model.specs.Puts.{put, is_part, part_reasons, commit_reasons, kept, committed, sent_to, added_by}
-use Rattle.doc_model.specs.Sound.{Sound}
-use Rattle.doc_model.specs.Turns.{Turn, first_refusal, refused, unless}
-use Rattle.doc_model.specs.Versions.{version, restore, restore_version, restore_reasons, restored, added_by_restore, new_index}
+use Rattle.doc_model.specs.rules.Apply.{by_kind}
+use Rattle.doc_model.specs.rules.Drawing.{can_draw}
+use Rattle.doc_model.specs.rules.Editing.{edit}
+use Rattle.doc_model.specs.laws.Documents.{CommitsNewIndex}
+use Rattle.doc_model.specs.rules.Locking.{do_lock}
+use Rattle.doc_model.specs.rules.Locks.{live, allowed}
+use Rattle.doc_model.specs.rules.Puts.{put, is_part, part_reasons, commit_reasons, kept, committed, sent_to, added_by}
+use Rattle.doc_model.specs.rules.Sound.{Sound}
+use Rattle.doc_model.specs.rules.Turns.{Turn, first_refusal, refused, unless}
+use Rattle.doc_model.specs.rules.Versions.{version, restore, restore_version, restore_reasons, restored, added_by_restore, new_index}
 use Rattle.doc_model.proofs.EachItem.{each-as, none-each}
 use Rattle.doc_model.proofs.Reasons.{NoneHolds, none-holds}
 use Rattle.doc_model.proofs.SoundRestore.{none-committed}

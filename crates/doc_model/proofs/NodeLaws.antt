@@ -17,7 +17,7 @@ use Rattle.stream_objects.specs.Written.{started, simple_object, compound_object
 use Rattle.stream_objects.proofs.ReadTrees.{spelled_is_read}
 use Rattle.stream_objects.proofs.Standing.{At, at_front, at_back, inside_at, simple_stands, compound_stands}
 use Rattle.stream_objects.proofs.Unique.{objects-cons}
-use Rattle.doc_model.specs.Nodes.{signature_said, size_said, is_node, size_of_node, node_size, node_bytes}
+use Rattle.doc_model.specs.rules.Nodes.{signature_said, size_said, is_node, size_of_node, node_size, node_bytes}
 
 -- ---- a tree whose parts are these is a node
 

@@ -10,10 +10,10 @@ use Rattle.doc_model.specs.declared.call.Put.{Put}
 use Rattle.doc_model.specs.declared.doc.Doc.{Doc}
 use Rattle.doc_model.specs.declared.doc.Commit.{Commit}
 use Rattle.doc_model.specs.declared.reply.Code.{Code}
-use Rattle.doc_model.specs.Laws.{ExpectsStored, CommitsOnStored, OneCommitOfIndex}
-use Rattle.doc_model.specs.Pulls.{stored_index}
-use Rattle.doc_model.specs.Puts.{put, is_part, part_refusal, commit_refusal, kept, committed, is_expected, commit_reasons, sent_to, added_by}
-use Rattle.doc_model.specs.Turns.{Turn, unless}
+use Rattle.doc_model.specs.laws.Documents.{ExpectsStored, CommitsOnStored, OneCommitOfIndex}
+use Rattle.doc_model.specs.rules.Pulls.{stored_index}
+use Rattle.doc_model.specs.rules.Puts.{put, is_part, part_refusal, commit_refusal, kept, committed, is_expected, commit_reasons, sent_to, added_by}
+use Rattle.doc_model.specs.rules.Turns.{Turn, unless}
 use Rattle.doc_model.proofs.Reasons.{and-both, none-holds, not-false, or-either}
 
 no_commits : (cs : List Commit) → (length cs == 0) ≡ true → cs ≡ []

@@ -9,7 +9,7 @@ use Rattle.compact_values.specs.declared.ids.ExGuid.{ExGuid}
 use Rattle.compact_values.specs.SameIds.{same_id}
 use Rattle.compact_values.proofs.SameIds.{id-same, same-id}
 use Rattle.compact_values.specs.IdPlaces.{with_new}
-use Rattle.doc_model.specs.Reached.{each_once, is_among}
+use Rattle.doc_model.specs.rules.Reached.{each_once, is_among}
 use Rattle.doc_model.proofs.EachItem.{each-front, each-flat}
 
 -- what holds of each of some ids holds of one that is among them

@@ -6,9 +6,9 @@ use Rattle.std.proofs.lemmas.List.{get_or_default}
 use Rattle.std.proofs.lemmas.List.Elements.{All-from_recursion, recursion_from_All}
 use Rattle.doc_model.specs.declared.call.Call.{Call}
 use Rattle.doc_model.specs.declared.doc.Doc.{Doc}
-use Rattle.doc_model.specs.Apply.{apply, replay}
-use Rattle.doc_model.specs.Histories.{History, EachMoves, Placed, Stands, moves, turn_at}
-use Rattle.doc_model.specs.HistoryLaws.{Ran, Runs, AreAt, AreCallers, OneThread, calls_of, changes_of, ran_by}
+use Rattle.doc_model.specs.rules.Apply.{apply, replay}
+use Rattle.doc_model.specs.rules.Histories.{History, EachMoves, Placed, Stands, moves, turn_at}
+use Rattle.doc_model.specs.laws.Histories.{Ran, Runs, AreAt, AreCallers, OneThread, calls_of, changes_of, ran_by}
 use Rattle.doc_model.proofs.EachItem.{each-append, each-as, each-both, each-filter, each-flat-map, each-mapped, each-passes}
 use Rattle.doc_model.proofs.Merging.{changed, still, is_still}
 use Rattle.doc_model.proofs.OwnOrder.{own-order}

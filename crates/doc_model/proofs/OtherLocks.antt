@@ -7,11 +7,11 @@ use Rattle.doc_model.specs.declared.doc.Doc.{Doc}
 use Rattle.doc_model.specs.declared.lock.LockRecord.{LockRecord}
 use Rattle.doc_model.specs.declared.reply.Code.{Code}
 use Rattle.doc_model.specs.declared.reply.Code.TheVariants.{AlreadyLocked}
-use Rattle.doc_model.specs.Drawing.{can_draw, draw}
-use Rattle.doc_model.specs.Locks.{live, allowed}
-use Rattle.doc_model.specs.Puts.{put, is_part, part_refusal, commit_refusal, kept, committed}
-use Rattle.doc_model.specs.Turns.{Turn, refused, unless}
-use Rattle.doc_model.specs.Versions.{version, restore, restore_version, restore_refusal, restored}
+use Rattle.doc_model.specs.rules.Drawing.{can_draw, draw}
+use Rattle.doc_model.specs.rules.Locks.{live, allowed}
+use Rattle.doc_model.specs.rules.Puts.{put, is_part, part_refusal, commit_refusal, kept, committed}
+use Rattle.doc_model.specs.rules.Turns.{Turn, refused, unless}
+use Rattle.doc_model.specs.rules.Versions.{version, restore, restore_version, restore_refusal, restored}
 
 chosen : (b : Bool) (x y : Turn) (l : LockRecord) → x.doc.lock ≡ l → y.doc.lock ≡ l → (cond b x y).doc.lock ≡ l
 chosen true x y l p q = p

@@ -6,9 +6,9 @@ use Rattle.std.proofs.lemmas.List.Elements.{recursion_from_All}
 use Rattle.std.proofs.lemmas.Option.{slice_get_within}
 use Rattle.doc_model.specs.declared.call.Call.{Call}
 use Rattle.doc_model.specs.declared.doc.Doc.{Doc}
-use Rattle.doc_model.specs.Apply.{apply, replay}
-use Rattle.doc_model.specs.Histories.{History, Placed, GoOn, Stands, calls_by, moved_calls, moves, turn_at}
-use Rattle.doc_model.specs.HistoryLaws.{Ran, ran_by}
+use Rattle.doc_model.specs.rules.Apply.{apply, replay}
+use Rattle.doc_model.specs.rules.Histories.{History, Placed, GoOn, Stands, calls_by, moved_calls, moves, turn_at}
+use Rattle.doc_model.specs.laws.Histories.{Ran, ran_by}
 use Rattle.doc_model.proofs.Merging.{changed, merged, merged-still, merged-later, merged-moved, go-on-before, go-on-behind}
 use Rattle.doc_model.proofs.Places.{IsAt, first-place, next-place, call-at, last-place}
 

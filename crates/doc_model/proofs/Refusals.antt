@@ -11,17 +11,17 @@ use Rattle.doc_model.specs.declared.lock.LockStep.{LockStep}
 use Rattle.doc_model.specs.declared.reply.Code.{Code}
 use Rattle.doc_model.specs.declared.reply.Code.TheVariants.{AlreadyLocked, LeftOnFailedConversion}
 use Rattle.doc_model.specs.declared.reply.Reply.TheVariants as reply
-use Rattle.doc_model.specs.Apply.{by_kind}
-use Rattle.doc_model.specs.Drawing.{draw, can_draw}
-use Rattle.doc_model.specs.Editing as editing
-use Rattle.doc_model.specs.Editing.{after_edit, editor_turn, live_editors}
-use Rattle.doc_model.specs.Laws.{RefusedStays}
-use Rattle.doc_model.specs.Locking.{after_lock}
-use Rattle.doc_model.specs.Locks.{live, allowed}
-use Rattle.doc_model.specs.LockSteps.{LockTurn, becomes, stays, refuses, leaves, lock_turn, tells_lock, lock_kind, coauthors_of}
-use Rattle.doc_model.specs.Puts.{put, is_part, part_refusal, commit_refusal, kept, committed}
-use Rattle.doc_model.specs.Turns.{Turn, unless, refused}
-use Rattle.doc_model.specs.Versions.{version, restore, restore_version, restore_refusal, restored}
+use Rattle.doc_model.specs.rules.Apply.{by_kind}
+use Rattle.doc_model.specs.rules.Drawing.{draw, can_draw}
+use Rattle.doc_model.specs.rules.Editing as editing
+use Rattle.doc_model.specs.rules.Editing.{after_edit, editor_turn, live_editors}
+use Rattle.doc_model.specs.laws.Documents.{RefusedStays}
+use Rattle.doc_model.specs.rules.Locking.{after_lock}
+use Rattle.doc_model.specs.rules.Locks.{live, allowed}
+use Rattle.doc_model.specs.rules.LockSteps.{LockTurn, becomes, stays, refuses, leaves, lock_turn, tells_lock, lock_kind, coauthors_of}
+use Rattle.doc_model.specs.rules.Puts.{put, is_part, part_refusal, commit_refusal, kept, committed}
+use Rattle.doc_model.specs.rules.Turns.{Turn, unless, refused}
+use Rattle.doc_model.specs.rules.Versions.{version, restore, restore_version, restore_refusal, restored}
 
 -- a turn that stays where it refuses
 record Refuses (turn : Turn) : Type 0 where

@@ -14,7 +14,7 @@ use Rattle.wire_kinds.specs.Code.{Code, ◌▸◌}
 use Rattle.wire_kinds.specs.Code as codes
 use Rattle.wire_kinds.specs.Pairs.{joined, parted}
 use Rattle.wire_kinds.specs.Row.{IsOf, row_bytes, simple}
-use Rattle.doc_model.specs.ElementRows.{manifest_mapping, cell_mapping, revision_mapping, schema_guid, manifest_root, current_revision, revision_manifest, revision_root, group_reference}
+use Rattle.doc_model.specs.wire.ElementRows.{manifest_mapping, cell_mapping, revision_mapping, schema_guid, manifest_root, current_revision, revision_manifest, revision_root, group_reference}
 use Rattle.doc_model.specs.declared.element.ManifestMap.{ManifestMap}
 use Rattle.doc_model.specs.declared.element.CellMap.{CellMap}
 use Rattle.doc_model.specs.declared.element.RevisionMap.{RevisionMap}

@@ -1,9 +1,9 @@
 -- The document that a list of calls leads to.
 use Rattle.std.proofs.Common.{◌≡◌, refl, sym, ◌∙◌, ap, [], ◌∷◌, ◌++◌}
 use Rattle.doc_model.specs.declared.doc.Doc.{Doc}
-use Rattle.doc_model.specs.Apply.{apply, replay}
-use Rattle.doc_model.specs.Histories.{History}
-use Rattle.doc_model.specs.HistoryLaws.{UnmovedBetween}
+use Rattle.doc_model.specs.rules.Apply.{apply, replay}
+use Rattle.doc_model.specs.rules.Histories.{History}
+use Rattle.doc_model.specs.laws.Histories.{UnmovedBetween}
 use Rattle.doc_model.proofs.Unmoved.{unmoved}
 
 pub replay-append : (doc : Doc) (xs ys : History) → replay doc (xs ++ ys) ≡ replay (replay doc xs) ys

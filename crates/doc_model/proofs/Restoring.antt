@@ -7,13 +7,13 @@ use Rattle.doc_model.specs.declared.doc.Doc.{Doc}
 use Rattle.doc_model.specs.declared.element.Element.{Element}
 use Rattle.doc_model.specs.declared.reply.Code.{Code}
 use Rattle.doc_model.specs.declared.reply.Code.TheVariants.{AlreadyLocked}
-use Rattle.doc_model.specs.Files.{file}
-use Rattle.doc_model.specs.Laws.{AllNamed, Restores, RestoresTheFile}
-use Rattle.doc_model.specs.Locks.{live, allowed}
-use Rattle.doc_model.specs.Reached.{names}
-use Rattle.doc_model.specs.Sound.{IsSoundCommit, Sound}
-use Rattle.doc_model.specs.Turns.{Turn, refused, unless}
-use Rattle.doc_model.specs.Versions.{restore_version, restore_refusal, restored, added_by_restore, index_like, new_index}
+use Rattle.doc_model.specs.rules.Files.{file}
+use Rattle.doc_model.specs.laws.Documents.{AllNamed, Restores, RestoresTheFile}
+use Rattle.doc_model.specs.rules.Locks.{live, allowed}
+use Rattle.doc_model.specs.rules.Reached.{names}
+use Rattle.doc_model.specs.rules.Sound.{IsSoundCommit, Sound}
+use Rattle.doc_model.specs.rules.Turns.{Turn, refused, unless}
+use Rattle.doc_model.specs.rules.Versions.{restore_version, restore_refusal, restored, added_by_restore, index_like, new_index}
 use Rattle.doc_model.proofs.Added.{file-stays, names-stay}
 use Rattle.doc_model.proofs.LastCommit.{All-version, stored-push}
 use Rattle.doc_model.proofs.LikeIndex.{below-like, file-like}

@@ -15,16 +15,16 @@ use Rattle.doc_model.specs.declared.lock.LockRecord.TheVariants.{Exclusive}
 use Rattle.doc_model.specs.declared.reply.Reply.{Reply}
 use Rattle.doc_model.specs.declared.reply.Reply.TheVariants as reply
 use Rattle.doc_model.specs.declared.reply.Code.TheVariants as code
-use Rattle.doc_model.specs.Apply.{empty_doc}
-use Rattle.doc_model.specs.FileObjects.{file_below}
-use Rattle.doc_model.specs.Files.{file}
-use Rattle.doc_model.specs.Pulls.{pull}
-use Rattle.doc_model.specs.Puts.{put}
-use Rattle.doc_model.specs.Drawing.{last_number}
-use Rattle.doc_model.specs.Reached.{named_along, chain, absent, reached}
-use Rattle.doc_model.specs.Versions.{restore}
-use Rattle.doc_model.specs.Weights.{weight}
-use Rattle.doc_model.specs.WrittenElements.{element_bytes, body_bytes, declarations_bytes, declaration_bytes, datas_bytes, data_bytes}
+use Rattle.doc_model.specs.rules.Apply.{empty_doc}
+use Rattle.doc_model.specs.rules.FileObjects.{file_below}
+use Rattle.doc_model.specs.rules.Files.{file}
+use Rattle.doc_model.specs.rules.Pulls.{pull}
+use Rattle.doc_model.specs.rules.Puts.{put}
+use Rattle.doc_model.specs.rules.Drawing.{last_number}
+use Rattle.doc_model.specs.rules.Reached.{named_along, chain, absent, reached}
+use Rattle.doc_model.specs.rules.Versions.{restore}
+use Rattle.doc_model.specs.rules.Weights.{weight}
+use Rattle.doc_model.specs.wire.WrittenElements.{element_bytes, body_bytes, declarations_bytes, declaration_bytes, datas_bytes, data_bytes}
 use Rattle.stream_objects.specs.Written as written
 use Rattle.wire_kinds.specs.Row.{row_bytes}
 

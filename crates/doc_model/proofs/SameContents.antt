@@ -11,7 +11,7 @@ use Rattle.doc_model.specs.declared.element.Body.{Body}
 use Rattle.doc_model.specs.declared.element.Body.TheVariants.{Index, Storage, Cell, Revision, Group, Blob}
 use Rattle.doc_model.specs.declared.element.Content.{Content}
 use Rattle.doc_model.specs.declared.element.Content.TheVariants.{Inline, Apart}
-use Rattle.doc_model.specs.Contents.{same_manifest_map, same_cell_map, same_revision_map, same_root, same_revision_root, same_content, same_object, same_body}
+use Rattle.doc_model.specs.rules.Contents.{same_manifest_map, same_cell_map, same_revision_map, same_root, same_revision_root, same_content, same_object, same_body}
 
 -- a test that tells equal values, and only those
 pub record Exact {X : Type 0} (test : X → X → Bool) : Type 0 where

@@ -11,11 +11,11 @@ use Rattle.compact_values.proofs.SameIds.{id-same}
 use Rattle.doc_model.specs.declared.doc.Doc.{Doc}
 use Rattle.doc_model.specs.declared.doc.Commit.{Commit}
 use Rattle.doc_model.specs.declared.element.Element.{Element}
-use Rattle.doc_model.specs.Apply.{replay}
-use Rattle.doc_model.specs.Finding.{find_element}
-use Rattle.doc_model.specs.Laws.{EqualIndexEqualCommits}
-use Rattle.doc_model.specs.Pulls.{stored_index}
-use Rattle.doc_model.specs.Sound.{IsSoundCommit, Sound}
+use Rattle.doc_model.specs.rules.Apply.{replay}
+use Rattle.doc_model.specs.rules.Finding.{find_element}
+use Rattle.doc_model.specs.laws.Documents.{EqualIndexEqualCommits}
+use Rattle.doc_model.specs.rules.Pulls.{stored_index}
+use Rattle.doc_model.specs.rules.Sound.{IsSoundCommit, Sound}
 use Rattle.doc_model.proofs.Added.{names-found}
 use Rattle.doc_model.proofs.Following.{histories-follow}
 use Rattle.doc_model.proofs.LastCommit.{All-slice, last-commit, nothing-more, slice-front}

@@ -2,7 +2,7 @@
 use Rattle.std.proofs.Common.{arith}
 use Rattle.wire_kinds.specs.Kind.{◌▹◌, exguid, serial, cell_id}
 use Rattle.wire_kinds.specs.Short.{Short, short_pair, short_exguid, short_serial, short_cell_id}
-use Rattle.doc_model.specs.ElementRows.{manifest_mapping, cell_mapping, revision_mapping, schema_guid, manifest_root, current_revision, revision_manifest, revision_root, group_reference}
+use Rattle.doc_model.specs.wire.ElementRows.{manifest_mapping, cell_mapping, revision_mapping, schema_guid, manifest_root, current_revision, revision_manifest, revision_root, group_reference}
 
 short_target : Short 46 (exguid ▹ serial)
 short_target = short_pair 21 25 exguid serial short_exguid short_serial

@@ -9,8 +9,8 @@ use Rattle.compact_values.specs.declared.ids.ExGuid.{ExGuid}
 use Rattle.compact_values.specs.declared.guid.Guid.{Guid}
 use Rattle.compact_values.specs.declared.ids.Serial.TheVariants as serials
 use Rattle.stream_objects.specs.Written.{simple_object, compound_object}
-use Rattle.doc_model.specs.Weights.{started_size, weight}
-use Rattle.doc_model.specs.WrittenElements.{declaration_kind, declaration_fields, declaration_bytes, data_kind, data_fields, data_bytes, declarations_bytes, datas_bytes, size_if_any, kind_number, body_bytes, element_bytes}
+use Rattle.doc_model.specs.rules.Weights.{started_size, weight}
+use Rattle.doc_model.specs.wire.WrittenElements.{declaration_kind, declaration_fields, declaration_bytes, data_kind, data_fields, data_bytes, declarations_bytes, datas_bytes, size_if_any, kind_number, body_bytes, element_bytes}
 use Rattle.doc_model.specs.declared.element.ManifestMap.{ManifestMap}
 use Rattle.doc_model.specs.declared.element.CellMap.{CellMap}
 use Rattle.doc_model.specs.declared.element.RevisionMap.{RevisionMap}
@@ -23,7 +23,7 @@ use Rattle.doc_model.specs.declared.element.Content.TheVariants.{Inline, Apart}
 use Rattle.doc_model.specs.declared.element.Element.{Element}
 use Rattle.wire_kinds.specs.Row.{Row, row_bytes}
 use Rattle.wire_kinds.specs.Short.{Short, short_compact, short_exguid, short_cell_id}
-use Rattle.doc_model.specs.ElementRows.{manifest_mapping, cell_mapping, revision_mapping, schema_guid, manifest_root, current_revision, revision_manifest, revision_root, group_reference}
+use Rattle.doc_model.specs.wire.ElementRows.{manifest_mapping, cell_mapping, revision_mapping, schema_guid, manifest_root, current_revision, revision_manifest, revision_root, group_reference}
 use Rattle.doc_model.proofs.ShortRows.{short_manifest_mapping, short_cell_mapping, short_revision_mapping, short_manifest_root, short_current_revision, short_revision_manifest, short_revision_root, short_group_reference}
 use Rattle.doc_model.proofs.SizeLemmas.{length_started, length_compound, length_three, length_declarations, length_datas, length_kind}
 

@@ -5,8 +5,8 @@ use Rattle.std.proofs.lemmas.Bool.Decides.{nat_tests}
 use Rattle.std.proofs.lemmas.List.{length-append}
 use Rattle.stream_objects.specs.Written.{started, compound_object}
 use Rattle.stream_objects.specs.Headers.{end_bytes, end_form}
-use Rattle.doc_model.specs.Weights.{started_size}
-use Rattle.doc_model.specs.WrittenElements.{declaration_bytes, data_bytes, declarations_bytes, datas_bytes, kind_number}
+use Rattle.doc_model.specs.rules.Weights.{started_size}
+use Rattle.doc_model.specs.wire.WrittenElements.{declaration_bytes, data_bytes, declarations_bytes, datas_bytes, kind_number}
 use Rattle.doc_model.specs.declared.element.Object.{Object}
 use Rattle.doc_model.specs.declared.element.Body.{Body}
 use Rattle.doc_model.specs.declared.element.Body.TheVariants.{Index, Storage, Cell, Revision, Group, Blob}

@@ -13,14 +13,14 @@ use Rattle.doc_model.specs.declared.doc.Doc.{Doc}
 use Rattle.doc_model.specs.declared.doc.Commit.{Commit}
 use Rattle.doc_model.specs.declared.element.Element.{Element}
 use Rattle.doc_model.specs.declared.element.Name.{Name}
-use Rattle.doc_model.specs.Files.{file}
-use Rattle.doc_model.specs.Finding.{Mappings, find_element, said, as_index}
-use Rattle.doc_model.specs.Laws.{AllNamed, AreNew, ReachedStays}
-use Rattle.doc_model.specs.Limits.{most_file, most_reached_weight}
-use Rattle.doc_model.specs.Puts.{has_chains, is_committed, too_large}
-use Rattle.doc_model.specs.Reached.{absent, chains_end, is_among, names, reached, reached_from}
-use Rattle.doc_model.specs.Sound.{IsSoundCommit}
-use Rattle.doc_model.specs.Weights.{weight_of}
+use Rattle.doc_model.specs.rules.Files.{file}
+use Rattle.doc_model.specs.rules.Finding.{Mappings, find_element, said, as_index}
+use Rattle.doc_model.specs.laws.Documents.{AllNamed, AreNew, ReachedStays}
+use Rattle.doc_model.specs.rules.Limits.{most_file, most_reached_weight}
+use Rattle.doc_model.specs.rules.Puts.{has_chains, is_committed, too_large}
+use Rattle.doc_model.specs.rules.Reached.{absent, chains_end, is_among, names, reached, reached_from}
+use Rattle.doc_model.specs.rules.Sound.{IsSoundCommit}
+use Rattle.doc_model.specs.rules.Weights.{weight_of}
 use Rattle.doc_model.proofs.Added.{file-stays, names-found, names-stay, same-added}
 use Rattle.doc_model.proofs.Agree.{reached-same}
 use Rattle.doc_model.proofs.Distinct.{distinct-push}

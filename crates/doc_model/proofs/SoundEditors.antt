@@ -11,9 +11,9 @@ use Rattle.doc_model.specs.declared.editor.Editor.{Editor}
 use Rattle.doc_model.specs.declared.editor.EditorStep.{EditorStep}
 use Rattle.doc_model.specs.declared.editor.EditorStep.TheVariants.{Join, Leave, Refresh, SetKey, RemoveKey}
 use Rattle.doc_model.specs.declared.editor.Entry.{Entry}
-use Rattle.doc_model.specs.Editing.{EditorTurn, becomes, stays, refuses, edited, editor_turn, editors_after, editors_moved, entry, finds_no_place, is_editor, is_key, is_live_editor, is_long, join, live_editors, new_editor, on_editor, on_found, other_editors, remove_key, renewed, set_key, with_editor, with_entry, without_key}
-use Rattle.doc_model.specs.Limits.{most_editors, most_keys}
-use Rattle.doc_model.specs.Sound.{AreSoundEditors}
+use Rattle.doc_model.specs.rules.Editing.{EditorTurn, becomes, stays, refuses, edited, editor_turn, editors_after, editors_moved, entry, finds_no_place, is_editor, is_key, is_live_editor, is_long, join, live_editors, new_editor, on_editor, on_found, other_editors, remove_key, renewed, set_key, with_editor, with_entry, without_key}
+use Rattle.doc_model.specs.rules.Limits.{most_editors, most_keys}
+use Rattle.doc_model.specs.rules.Sound.{AreSoundEditors}
 use Rattle.doc_model.proofs.Distinct.{distinct-filter, distinct-none}
 use Rattle.doc_model.proofs.EachItem.{each-as, each-both, each-found}
 use Rattle.doc_model.proofs.Placed.{placed, length-placed, length-there, each-placed, distinct-placed}

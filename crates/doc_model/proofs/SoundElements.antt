@@ -9,11 +9,11 @@ use Rattle.compact_values.specs.SameIds.{same_guid, same_id}
 use Rattle.compact_values.proofs.SameIds.{id-same, same-id, same-guid}
 use Rattle.doc_model.specs.declared.doc.Doc.{Doc}
 use Rattle.doc_model.specs.declared.element.Element.{Element}
-use Rattle.doc_model.specs.Finding.{firsts}
-use Rattle.doc_model.specs.Limits.{most_objects}
-use Rattle.doc_model.specs.Puts.{fresh, same_ids, is_new, is_foreign, is_invalid, grown, has_invalid}
-use Rattle.doc_model.specs.Sound.{IsDrawn, IsSoundElement}
-use Rattle.doc_model.specs.Weights.{objects_written}
+use Rattle.doc_model.specs.rules.Finding.{firsts}
+use Rattle.doc_model.specs.rules.Limits.{most_objects}
+use Rattle.doc_model.specs.rules.Puts.{fresh, same_ids, is_new, is_foreign, is_invalid, grown, has_invalid}
+use Rattle.doc_model.specs.rules.Sound.{IsDrawn, IsSoundElement}
+use Rattle.doc_model.specs.rules.Weights.{objects_written}
 use Rattle.doc_model.proofs.Distinct.{distinct-filter, distinct-firsts, distinct-more, each-firsts}
 use Rattle.doc_model.proofs.EachItem.{each-as, each-both, each-filter, each-passes, none-each}
 use Rattle.doc_model.proofs.Reasons.{not-less, not-true, or-neither}

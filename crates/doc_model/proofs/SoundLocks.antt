@@ -10,10 +10,10 @@ use Rattle.doc_model.specs.declared.lock.LockRecord.TheVariants.{Free, Exclusive
 use Rattle.doc_model.specs.declared.lock.LockStep.{LockStep}
 use Rattle.doc_model.specs.declared.lock.LockStep.TheVariants.{TakeExclusive, DropExclusive, RefreshExclusive, CheckExclusive, ToShared, TakeShared, DropShared, RefreshShared, ToExclusive, CheckShared, Status, Mark}
 use Rattle.doc_model.specs.declared.lock.Member.{Member}
-use Rattle.doc_model.specs.Limits.{most_sharing}
-use Rattle.doc_model.specs.Locks.{is_live, live, shared_by}
-use Rattle.doc_model.specs.LockSteps.{LockTurn, becomes, stays, refuses, leaves, on_exclusive, on_shared, on_member, is_client, others, member, with_client, lock_turn, lock_after, lock_moved}
-use Rattle.doc_model.specs.Sound.{AreSoundMembers}
+use Rattle.doc_model.specs.rules.Limits.{most_sharing}
+use Rattle.doc_model.specs.rules.Locks.{is_live, live, shared_by}
+use Rattle.doc_model.specs.rules.LockSteps.{LockTurn, becomes, stays, refuses, leaves, on_exclusive, on_shared, on_member, is_client, others, member, with_client, lock_turn, lock_after, lock_moved}
+use Rattle.doc_model.specs.rules.Sound.{AreSoundMembers}
 use Rattle.doc_model.proofs.Distinct.{distinct-filter, distinct-one}
 use Rattle.doc_model.proofs.SoundParts.{length-filter}
 

@@ -10,10 +10,10 @@ use Rattle.doc_model.specs.declared.call.Put.{Put}
 use Rattle.doc_model.specs.declared.doc.Doc.{Doc}
 use Rattle.doc_model.specs.declared.doc.Part.{Part}
 use Rattle.doc_model.specs.declared.element.Element.{Element}
-use Rattle.doc_model.specs.Limits.{day, most_objects, most_parts, most_parts_weight}
-use Rattle.doc_model.specs.Puts.{find_part, pending, sent, is_kept, other_parts, too_many_parts}
-use Rattle.doc_model.specs.Sound.{IsSoundElement, IsSoundPart, AreSoundParts, part_weight}
-use Rattle.doc_model.specs.Weights.{objects_written, weight_of}
+use Rattle.doc_model.specs.rules.Limits.{day, most_objects, most_parts, most_parts_weight}
+use Rattle.doc_model.specs.rules.Puts.{find_part, pending, sent, is_kept, other_parts, too_many_parts}
+use Rattle.doc_model.specs.rules.Sound.{IsSoundElement, IsSoundPart, AreSoundParts, part_weight}
+use Rattle.doc_model.specs.rules.Weights.{objects_written, weight_of}
 use Rattle.doc_model.proofs.Distinct.{distinct-filter, distinct-push}
 use Rattle.doc_model.proofs.EachItem.{each-as, each-append, each-found, each-passes}
 use Rattle.doc_model.proofs.SoundElements.{element-later}

@@ -15,14 +15,14 @@ use Rattle.doc_model.specs.declared.doc.Commit.{Commit}
 use Rattle.doc_model.specs.declared.element.Body.{Body}
 use Rattle.doc_model.specs.declared.element.Body.TheVariants.{Index, Storage, Cell, Revision, Group, Blob}
 use Rattle.doc_model.specs.declared.element.Element.{Element}
-use Rattle.doc_model.specs.Drawing.{last_number}
-use Rattle.doc_model.specs.Files.{file}
-use Rattle.doc_model.specs.Finding.{find_element, said, as_index}
-use Rattle.doc_model.specs.Limits.{most_added, most_added_weight, most_file, most_objects, most_reached_weight}
-use Rattle.doc_model.specs.Reached.{reached_from}
-use Rattle.doc_model.specs.Sound.{IsDrawn, IsSoundElement, IsSoundCommit, Sound}
-use Rattle.doc_model.specs.Versions.{added_by_restore, index_like, new_index, restored, restore_reasons}
-use Rattle.doc_model.specs.Weights.{objects_in, objects_written, weight_of}
+use Rattle.doc_model.specs.rules.Drawing.{last_number}
+use Rattle.doc_model.specs.rules.Files.{file}
+use Rattle.doc_model.specs.rules.Finding.{find_element, said, as_index}
+use Rattle.doc_model.specs.rules.Limits.{most_added, most_added_weight, most_file, most_objects, most_reached_weight}
+use Rattle.doc_model.specs.rules.Reached.{reached_from}
+use Rattle.doc_model.specs.rules.Sound.{IsDrawn, IsSoundElement, IsSoundCommit, Sound}
+use Rattle.doc_model.specs.rules.Versions.{added_by_restore, index_like, new_index, restored, restore_reasons}
+use Rattle.doc_model.specs.rules.Weights.{objects_in, objects_written, weight_of}
 use Rattle.doc_model.proofs.Added.{names-found}
 use Rattle.doc_model.proofs.Distinct.{distinct-push}
 use Rattle.doc_model.proofs.EachItem.{each-as, each-found}

@@ -4,9 +4,9 @@ use Rattle.std.specs.List.{AllByRecursion as Each, IsDistinct}
 use Rattle.std.proofs.lemmas.Bool.{cond-true, cond-false, eqb-false}
 use Rattle.std.proofs.lemmas.List.Elements.{filter-append}
 use Rattle.doc_model.specs.declared.doc.Doc.{Doc}
-use Rattle.doc_model.specs.Apply.{apply}
-use Rattle.doc_model.specs.Histories.{History, Placed}
-use Rattle.doc_model.specs.HistoryLaws.{Ran, ran_by}
+use Rattle.doc_model.specs.rules.Apply.{apply}
+use Rattle.doc_model.specs.rules.Histories.{History, Placed}
+use Rattle.doc_model.specs.laws.Histories.{Ran, ran_by}
 use Rattle.doc_model.proofs.EachItem.{each-as, each-both, each-map}
 use Rattle.doc_model.proofs.Merging.{changed, merged, still}
 

@@ -9,13 +9,13 @@ use Rattle.doc_model.specs.declared.doc.Commit.{Commit}
 use Rattle.doc_model.specs.declared.lock.LockRecord.{LockRecord}
 use Rattle.doc_model.specs.declared.lock.LockRecord.TheVariants.{Free, Exclusive, Shared}
 use Rattle.doc_model.specs.declared.reply.Code.TheVariants.{AlreadyLocked}
-use Rattle.doc_model.specs.Apply.{by_kind}
-use Rattle.doc_model.specs.Drawing.{can_draw}
-use Rattle.doc_model.specs.LockLaws.{Carries, IsFreeOrCarried, CommitsUnderLock}
-use Rattle.doc_model.specs.Locks.{allowed, carries, live}
-use Rattle.doc_model.specs.Puts.{commit_reasons, sent_to, added_by}
-use Rattle.doc_model.specs.Turns.{Turn, refused}
-use Rattle.doc_model.specs.Versions.{version, restore_version}
+use Rattle.doc_model.specs.rules.Apply.{by_kind}
+use Rattle.doc_model.specs.rules.Drawing.{can_draw}
+use Rattle.doc_model.specs.laws.Locks.{Carries, IsFreeOrCarried, CommitsUnderLock}
+use Rattle.doc_model.specs.rules.Locks.{allowed, carries, live}
+use Rattle.doc_model.specs.rules.Puts.{commit_reasons, sent_to, added_by}
+use Rattle.doc_model.specs.rules.Turns.{Turn, refused}
+use Rattle.doc_model.specs.rules.Versions.{version, restore_version}
 use Rattle.doc_model.proofs.OnStored.{put-accepted}
 use Rattle.doc_model.proofs.Reasons.{none-holds, not-false}
 

@@ -1,7 +1,7 @@
 ghost use Rattle.std.specs.Prelude.{◌≡◌, Some, IfOk, IsSome, Option};
 ghost use Rattle.doc_model.specs.declared.doc.Doc.{Doc};
-ghost use Rattle.doc_model.specs.Apply.{apply, IsPlanned};
-ghost use Rattle.doc_model.specs.Sound.{Valid};
+ghost use Rattle.doc_model.specs.rules.Apply.{apply, IsPlanned};
+ghost use Rattle.doc_model.specs.rules.Sound.{Valid};
 
 use crate::call::Call;
 use crate::doc::Doc;

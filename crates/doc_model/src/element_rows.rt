@@ -1,6 +1,6 @@
 // The regular objects of data elements as tuples of their fields, in both directions.
-ghost use Rattle.doc_model.specs.ElementRows.{manifest_mapping, cell_mapping, revision_mapping, manifest_root, revision_root};
-ghost use Rattle.doc_model.specs.ElementCodes.{manifest_code, cell_code, revision_code, root_code, revision_root_code};
+ghost use Rattle.doc_model.specs.wire.ElementRows.{manifest_mapping, cell_mapping, revision_mapping, manifest_root, revision_root};
+ghost use Rattle.doc_model.specs.readers.ElementCodes.{manifest_code, cell_code, revision_code, root_code, revision_root_code};
 
 use crate::element::{CellMap, ManifestMap, RevisionMap, RevisionRoot, Root};
 use compact_values::{CellId, ExGuid, NoMemory, Octets, Serial};

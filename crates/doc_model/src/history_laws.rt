@@ -1,5 +1,5 @@
 //! Laws of histories: each function's contract is one, and it does nothing.
-ghost use Rattle.doc_model.specs.HistoryLaws.{
+ghost use Rattle.doc_model.specs.laws.Histories.{
   FitsWhatStands,
   FitsWhatWasTried,
   HistoryAtFirst,

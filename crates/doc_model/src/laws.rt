@@ -1,7 +1,7 @@
 //! Laws of the definitions: each function's contract is one, and it does nothing.
-ghost use Rattle.doc_model.specs.Laws.{UnmovedIsEqual, CommitsOnStored, OneCommitOfIndex, CommitsNewIndex, EqualIndexEqualCommits, NamesStay, ReachedStays, ReadsTheFile, RefusedStays, ChainStays, FileStays, DownloadsTheFile, DownloadsWhatIsReached, DownloadsNothing, KeepsSound, EmptyIsSound, CallsFollow, HistoriesFollow, RestoresTheFile};
-ghost use Rattle.doc_model.specs.LockLaws.{CommitsUnderLock};
-ghost use Rattle.doc_model.specs.NamingLaws.{OnceIsEnough, ObjectOfTheFile};
+ghost use Rattle.doc_model.specs.laws.Documents.{UnmovedIsEqual, CommitsOnStored, OneCommitOfIndex, CommitsNewIndex, EqualIndexEqualCommits, NamesStay, ReachedStays, ReadsTheFile, RefusedStays, ChainStays, FileStays, DownloadsTheFile, DownloadsWhatIsReached, DownloadsNothing, KeepsSound, EmptyIsSound, CallsFollow, HistoriesFollow, RestoresTheFile};
+ghost use Rattle.doc_model.specs.laws.Locks.{CommitsUnderLock};
+ghost use Rattle.doc_model.specs.laws.Naming.{OnceIsEnough, ObjectOfTheFile};
 
 /// A call that doesn't move leaves the document equal.
 pub fn unmoved_leaves_the_document()

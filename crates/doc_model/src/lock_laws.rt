@@ -1,5 +1,5 @@
 //! Laws of locks: each function's contract is one, and it does nothing.
-ghost use Rattle.doc_model.specs.LockLaws.{KeepsExclusive, KeepsMembers};
+ghost use Rattle.doc_model.specs.laws.Locks.{KeepsExclusive, KeepsMembers};
 
 /// A call leaves a live exclusive lock, but for its holder's own drop and conversion; and its end, but for its
 /// holder's own take and refresh.

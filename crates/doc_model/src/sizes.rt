@@ -5,8 +5,8 @@ ghost use Rattle.std.specs.List.{flat_map};
 ghost use Rattle.compact_values.specs.Compact.{compact};
 ghost use Rattle.compact_values.specs.Ids.{exguid, serial, cell_id};
 ghost use Rattle.compact_values.specs.Items.{item, array};
-ghost use Rattle.doc_model.specs.WrittenElements.{size_if_any, declaration_fields, data_fields};
-ghost use Rattle.doc_model.specs.Weights.{started_size};
+ghost use Rattle.doc_model.specs.wire.WrittenElements.{size_if_any, declaration_fields, data_fields};
+ghost use Rattle.doc_model.specs.rules.Weights.{started_size};
 
 use crate::element::{Content, Object};
 use compact_values::{CellId, ExGuid, Serial};

@@ -3,10 +3,10 @@
 ghost use Rattle.std.specs.Prelude.{◌≡◌, ◌+◌, ◌*◌, ◌≤◌, ◌^◌, ◌++◌, length};
 ghost use Rattle.std.specs.List.{flat_map};
 ghost use Rattle.wire_kinds.specs.Row.{row_bytes};
-ghost use Rattle.doc_model.specs.ElementRows.{manifest_mapping, cell_mapping, revision_mapping, schema_guid, manifest_root, current_revision, revision_manifest, revision_root, group_reference};
-ghost use Rattle.doc_model.specs.WrittenElements.{declaration_bytes, data_bytes, declarations_bytes, datas_bytes, blob_bytes, body_bytes};
-ghost use Rattle.doc_model.specs.Limits.{most_objects};
-ghost use Rattle.doc_model.specs.Weights.{weight, objects_in, objects_written};
+ghost use Rattle.doc_model.specs.wire.ElementRows.{manifest_mapping, cell_mapping, revision_mapping, schema_guid, manifest_root, current_revision, revision_manifest, revision_root, group_reference};
+ghost use Rattle.doc_model.specs.wire.WrittenElements.{declaration_bytes, data_bytes, declarations_bytes, datas_bytes, blob_bytes, body_bytes};
+ghost use Rattle.doc_model.specs.rules.Limits.{most_objects};
+ghost use Rattle.doc_model.specs.rules.Weights.{weight, objects_in, objects_written};
 
 use crate::element::{
     Body, CellMap, Element, ManifestMap, Object, RevisionMap, RevisionRoot, Root,
@@ -29,7 +29,7 @@ fn index_weight(manifests: &[ManifestMap], cells: &[CellMap], revisions: &[Revis
 }
 
 // The declaration of an object.
-#[tactic(auto, using(crate::proofs::SizeLemmas::length_started), unfolding(crate::specs::WrittenElements::declaration_bytes))]
+#[tactic(auto, using(crate::proofs::SizeLemmas::length_started), unfolding(crate::specs::wire::WrittenElements::declaration_bytes))]
 fn declaration_weight(object: &Object) -> u128
     ensures length { result ≡ length (declaration_bytes object.now) }
     ensures few { result ≤ 2 ^ 73 }
@@ -51,7 +51,7 @@ fn declarations_weight(declarations: &[Object]) -> u128
 }
 
 // The data of an object.
-#[tactic(auto, using(crate::proofs::SizeLemmas::length_started), unfolding(crate::specs::WrittenElements::data_bytes))]
+#[tactic(auto, using(crate::proofs::SizeLemmas::length_started), unfolding(crate::specs::wire::WrittenElements::data_bytes))]
 fn data_weight(object: &Object) -> u128
     ensures length { result ≡ length (data_bytes object.now) }
     ensures few { result ≤ 2 ^ 73 }
@@ -115,7 +115,7 @@ fn revision_weight(ids: &(ExGuid, ExGuid), roots: &[RevisionRoot], groups: &[ExG
 }
 
 // The child of a blob.
-#[tactic(auto, using(crate::proofs::SizeLemmas::length_started), unfolding(crate::specs::WrittenElements::blob_bytes))]
+#[tactic(auto, using(crate::proofs::SizeLemmas::length_started), unfolding(crate::specs::wire::WrittenElements::blob_bytes))]
 fn blob_weight(bytes: &[u8]) -> u128
     ensures length { result ≡ length (blob_bytes bytes.now) }
     ensures few { result ≤ 2 ^ 93 }
@@ -124,7 +124,7 @@ fn blob_weight(bytes: &[u8]) -> u128
 }
 
 // The children of an element.
-#[tactic(auto, unfolding(crate::specs::WrittenElements::body_bytes))]
+#[tactic(auto, unfolding(crate::specs::wire::WrittenElements::body_bytes))]
 fn body_weight(body: &Body) -> u128
     requires { objects_in body.now ≤ most_objects }
     ensures length { result ≡ length (body_bytes body.now) }

@@ -2,7 +2,7 @@
 use Rattle.std.specs.Prelude.{◌≡◌, ℕ, Bool, [], ◌++◌, Some, None}
 use mathlib.Core.Option.{Option, none, some}
 use Rattle.atomic_table.specs.Table.{Me, Step}
-use Rattle.doc_model.specs.HistoryLaws.{gained}
+use Rattle.doc_model.specs.laws.Histories.{gained}
 use Rattle.doc_model.specs.declared.call.Call.{Call}
 use Rattle.doc_model.specs.declared.reply.Submitted.{Submitted}
 use Rattle.doc_story.specs.declared.told.Noted.{Noted}

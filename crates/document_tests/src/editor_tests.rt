@@ -1,5 +1,5 @@
 ghost use Rattle.std.specs.Prelude.{ℕ, ◌+◌, ◌<◌, ◌^◌, IfOk, IfSome};
-ghost use Rattle.doc_model.specs.Editing.{editor_timeout_of};
+ghost use Rattle.doc_model.specs.rules.Editing.{editor_timeout_of};
 
 use compact_values::{Guid, NoMemory, Octets, Seq, Text};
 use doc_model::{Code, Editor, EditorStep, Editors, Entry, Reply};

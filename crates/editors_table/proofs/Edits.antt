@@ -7,7 +7,7 @@ use Rattle.std.proofs.lemmas.Option.{cond_some}
 use Rattle.std.proofs.lemmas.Bool.Decides.{nat_tests}
 use Rattle.compact_values.specs.declared.guid.Guid.{Guid}
 use Rattle.doc_model.specs.declared.editor.Editor.{Editor}
-use Rattle.doc_model.specs.Editing.{is_editor, edited, renewed, new_editor, with_editor}
+use Rattle.doc_model.specs.rules.Editing.{is_editor, edited, renewed, new_editor, with_editor}
 
 module _ (client : Guid) where
   -- only the client's first editor changes

@@ -1,7 +1,7 @@
 -- What a plan of a step of an editor says.
 use Rattle.std.specs.Prelude.{◌≡◌, List}
 use Rattle.doc_model.specs.declared.editor.Editor.{Editor}
-use Rattle.doc_model.specs.Editing.{EditorTurn, editors_after, editors_moved, editors_refusal}
+use Rattle.doc_model.specs.rules.Editing.{EditorTurn, editors_after, editors_moved, editors_refusal}
 use Rattle.editors_table.specs.declared.plan.EditorPlan.{EditorPlan}
 
 -- the plan is this turn of these live editors

@@ -1,5 +1,5 @@
 ghost use Rattle.std.specs.Prelude.{◌≡◌};
-ghost use Rattle.doc_model.specs.Editing.{editors_reply};
+ghost use Rattle.doc_model.specs.rules.Editing.{editors_reply};
 
 use crate::plan::EditorPlan;
 use doc_model::Reply;

@@ -1,5 +1,5 @@
 ghost use Rattle.std.specs.Prelude.{◌≡◌, ℕ, ◌+◌, ◌<◌, ◌^◌, IfOk, IfSome};
-ghost use Rattle.doc_model.specs.Editing.{editor_timeout_of, editor_turn, live_editors};
+ghost use Rattle.doc_model.specs.rules.Editing.{editor_timeout_of, editor_turn, live_editors};
 ghost use Rattle.editors_table.specs.Turning.{IsTurn};
 
 use crate::live::live_editors;

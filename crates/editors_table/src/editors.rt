@@ -1,6 +1,6 @@
 ghost use Rattle.std.specs.Prelude.{◌≡◌, length, find, option_map, IfOk};
 ghost use Rattle.std.specs.List.{position};
-ghost use Rattle.doc_model.specs.Editing.{is_editor, other_editors, edited, with_editor};
+ghost use Rattle.doc_model.specs.rules.Editing.{is_editor, other_editors, edited, with_editor};
 
 use compact_values::{Copied, Guid, NoMemory, Seq, Text};
 use doc_model::{Editor, Editors};

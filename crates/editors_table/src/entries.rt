@@ -1,7 +1,7 @@
 ghost use Rattle.std.specs.Prelude.{◌≡◌, nat_lt, IfOk};
 ghost use Rattle.std.specs.List.{list_any};
-ghost use Rattle.doc_model.specs.Editing.{entry, finds_no_place, is_key, with_entry, without_key};
-ghost use Rattle.doc_model.specs.Limits.{most_key_bytes};
+ghost use Rattle.doc_model.specs.rules.Editing.{entry, finds_no_place, is_key, with_entry, without_key};
+ghost use Rattle.doc_model.specs.rules.Limits.{most_key_bytes};
 
 use compact_values::{Copied, NoMemory, Octets, Same, Seq, Text};
 use doc_model::limits::{MOST_KEY_BYTES, MOST_KEYS};

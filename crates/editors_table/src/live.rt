@@ -1,5 +1,5 @@
 ghost use Rattle.std.specs.Prelude.{◌≡◌, length, IfOk};
-ghost use Rattle.doc_model.specs.Editing.{live_editors, is_alone};
+ghost use Rattle.doc_model.specs.rules.Editing.{live_editors, is_alone};
 
 use compact_values::{Copied, NoMemory, Seq};
 use doc_model::{Editor, Editors};

@@ -1,5 +1,5 @@
 ghost use Rattle.std.specs.Prelude.{◌≡◌, true, None};
-ghost use Rattle.doc_model.specs.Editing.{stays, refuses};
+ghost use Rattle.doc_model.specs.rules.Editing.{stays, refuses};
 ghost use Rattle.editors_table.specs.Turning.{IsTurn};
 
 use doc_model::{Code, Editors};

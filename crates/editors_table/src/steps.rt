@@ -1,5 +1,5 @@
 ghost use Rattle.std.specs.Prelude.{◌≡◌, IfOk};
-ghost use Rattle.doc_model.specs.Editing.{becomes, on_editor, other_editors, edited, join, set_key, remove_key};
+ghost use Rattle.doc_model.specs.rules.Editing.{becomes, on_editor, other_editors, edited, join, set_key, remove_key};
 ghost use Rattle.editors_table.specs.Turning.{IsTurn};
 
 use crate::editors::{count_others, others, own_editor, replaced, with_editor};

@@ -5,7 +5,7 @@ use Rattle.compact_values.specs.declared.ids.ExGuid.{ExGuid}
 use Rattle.compact_values.specs.IdPlaces.{place_of}
 use Rattle.compact_values.specs.SameIds.{same_id}
 use Rattle.doc_model.specs.declared.element.Element.{Element}
-use Rattle.doc_model.specs.Finding.{find_element, numbered_from}
+use Rattle.doc_model.specs.rules.Finding.{find_element, numbered_from}
 use Rattle.doc_model.proofs.Distinct.{distinct-push}
 use Rattle.element_store.specs.Stored.{serial_of}
 

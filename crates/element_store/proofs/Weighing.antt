@@ -4,8 +4,8 @@ use Rattle.std.proofs.lemmas.Bool.Decides.{nat_tests}
 use Rattle.std.proofs.lemmas.List.Elements.{All-head, All-tail}
 use Rattle.std.proofs.lemmas.List.Sums.{sum_by-append}
 use Rattle.doc_model.specs.declared.element.Element.{Element}
-use Rattle.doc_model.specs.Limits.{most_objects}
-use Rattle.doc_model.specs.Weights.{weight, weight_of, objects_written}
+use Rattle.doc_model.specs.rules.Limits.{most_objects}
+use Rattle.doc_model.specs.rules.Weights.{weight, weight_of, objects_written}
 use Rattle.element_store.specs.Kept.{kept_weight, whole_weight}
 
 -- one element more

@@ -2,8 +2,8 @@
 use Rattle.std.specs.Prelude.{ℕ, ◌-◌, ◌^◌, min, nat_le, if◌then◌else◌, List}
 use Rattle.std.specs.List.{sum_by}
 use Rattle.doc_model.specs.declared.element.Element.{Element}
-use Rattle.doc_model.specs.Limits.{most_objects}
-use Rattle.doc_model.specs.Weights.{weight, objects_written}
+use Rattle.doc_model.specs.rules.Limits.{most_objects}
+use Rattle.doc_model.specs.rules.Weights.{weight, objects_written}
 
 -- the weight of an element that is written in few enough stream objects to be weighed
 abbrev pub kept_weight : Element → ℕ

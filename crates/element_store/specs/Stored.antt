@@ -3,7 +3,7 @@ use Rattle.std.specs.Prelude.{ℕ, List, Option, option_map, find}
 use Rattle.compact_values.specs.declared.ids.ExGuid.{ExGuid}
 use Rattle.compact_values.specs.SameIds.{same_id}
 use Rattle.doc_model.specs.declared.element.Element.{Element}
-use Rattle.doc_model.specs.Finding.{numbered_from}
+use Rattle.doc_model.specs.rules.Finding.{numbered_from}
 
 -- the elements in the order of their serial numbers, which begin at 1, and for how many more there is room
 pub record Stored : Type 0 where

@@ -2,9 +2,9 @@
 ghost use Rattle.std.specs.Prelude.{◌≡◌, ◌+◌, ◌-◌, ◌<◌, ◌≤◌, [], ◌∷◌, ◌++◌, length, map, None, Some, OnOk, IfSome, slice_get, vec_len, vec_capacity, is_some, get_or};
 ghost use Rattle.std.specs.List.{All, IsDistinct, insert};
 ghost use Rattle.compact_values.specs.SameIds.{same_id};
-ghost use Rattle.doc_model.specs.Finding.{find_element};
-ghost use Rattle.doc_model.specs.Limits.{most_objects};
-ghost use Rattle.doc_model.specs.Weights.{weight, weight_of, objects_written};
+ghost use Rattle.doc_model.specs.rules.Finding.{find_element};
+ghost use Rattle.doc_model.specs.rules.Limits.{most_objects};
+ghost use Rattle.doc_model.specs.rules.Weights.{weight, weight_of, objects_written};
 ghost use Rattle.element_store.specs.Kept.{at_most_all};
 ghost use Rattle.element_store.specs.Stored.{serial_of};
 

@@ -1,7 +1,7 @@
 // What an element weighs, as it is kept with it.
 ghost use Rattle.std.specs.Prelude.{◌≡◌, IsTrue, ◌↔◌, ◌≤◌, ◌<◌, ◌^◌};
-ghost use Rattle.doc_model.specs.Limits.{most_objects};
-ghost use Rattle.doc_model.specs.Weights.{objects_in, objects_written};
+ghost use Rattle.doc_model.specs.rules.Limits.{most_objects};
+ghost use Rattle.doc_model.specs.rules.Weights.{objects_in, objects_written};
 ghost use Rattle.element_store.specs.Kept.{kept_weight};
 
 use doc_model::limits::MOST_OBJECTS;

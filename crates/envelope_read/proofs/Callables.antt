@@ -5,9 +5,9 @@ use Rattle.std.specs.List.{AllByRecursion}
 use Rattle.std.specs.Str.{bytes_eq}
 use Rattle.std.proofs.lemmas.Bool.{ltb-false}
 use Rattle.std.proofs.lemmas.Bool.Decides.{nat_tests}
-use Rattle.doc_model.specs.LockSteps.{timeout_of}
-use Rattle.doc_model.specs.Editing.{editor_timeout_of}
-use Rattle.doc_model.specs.Sound.{IsValidTimeout, Valid}
+use Rattle.doc_model.specs.rules.LockSteps.{timeout_of}
+use Rattle.doc_model.specs.rules.Editing.{editor_timeout_of}
+use Rattle.doc_model.specs.rules.Sound.{IsValidTimeout, Valid}
 use Rattle.doc_model.specs.declared.call.Call.{Call}
 use Rattle.doc_model.specs.declared.editor.EditorStep.{EditorStep}
 use Rattle.doc_model.specs.declared.lock.LockStep.{LockStep}

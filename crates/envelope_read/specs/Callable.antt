@@ -1,7 +1,7 @@
 -- Envelopes whose calls may be made, how many subrequests one has, and how large its Cells are.
 use Rattle.std.specs.Prelude.{ℕ, ◌+◌, ◌≤◌, List, [], ◌∷◌, length}
 use Rattle.std.specs.List.{AllByRecursion}
-use Rattle.doc_model.specs.Sound.{IsValidSub}
+use Rattle.doc_model.specs.rules.Sound.{IsValidSub}
 use Rattle.envelope_read.specs.declared.collection.Ask.{Ask}
 use Rattle.envelope_read.specs.declared.collection.Collection.{Collection}
 use Rattle.envelope_read.specs.declared.collection.What.{What}

@@ -8,7 +8,7 @@ use Rattle.std.specs.Str.{bytes_eq, str_eq_ignore_ascii_case}
 use Rattle.std.specs.Str.Parse.{digits_value}
 use Rattle.compact_values.specs.GuidText.{guid_in_text}
 use Rattle.compact_values.specs.declared.guid.Guid.{Guid}
-use Rattle.doc_model.specs.Limits.{day}
+use Rattle.doc_model.specs.rules.Limits.{day}
 use Rattle.envelope_grammar.specs.Reading.{◌>>=◌}
 use Rattle.envelope_grammar.specs.declared.tag.Name.{Name}
 use Rattle.envelope_grammar.specs.declared.tag.Attribute.{Attribute}

@@ -1,6 +1,6 @@
 //! What holds of the definitions themselves. Each law is the contract of a function that does nothing.
 ghost use Rattle.std.specs.Prelude.{◌≡◌, ◌<◌, ◌≤◌, ◌^◌, ℕ, List, Ok, length};
-ghost use Rattle.doc_model.specs.Sound.{Valid};
+ghost use Rattle.doc_model.specs.rules.Sound.{Valid};
 ghost use Rattle.doc_model.specs.declared.call.Call.{Call};
 ghost use Rattle.envelope_read.specs.Callable.{IsCallable, AreCallable, AreCellsWithin, subs_of};
 ghost use Rattle.envelope_read.specs.Verdicts.{most_subs, verdict};

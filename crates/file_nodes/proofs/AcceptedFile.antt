@@ -16,13 +16,13 @@ use Rattle.doc_model.specs.declared.element.Element.{Element}
 use Rattle.doc_model.specs.declared.element.Name.{Name}
 use Rattle.doc_model.specs.declared.element.Object.{Object}
 use Rattle.doc_model.specs.declared.reply.Code.{Code}
-use Rattle.doc_model.specs.Files.{file}
-use Rattle.doc_model.specs.Finding.{Mappings, as_index, as_storage, as_cell, as_revision, as_group, find_element, said}
-use Rattle.doc_model.specs.Limits.{most_file, most_added_weight, most_reached_weight}
-use Rattle.doc_model.specs.Puts.{put, committed, commit_reasons, commit_refusal, grown, has_chains, has_invalid, is_foreign, is_invalid, is_new, too_large, too_much_added}
-use Rattle.doc_model.specs.Reached.{absent, blob_of, blob_name, cell_name, cells_of, currents_of, each_once, group_name, named_along, named_blobs, named_groups, named_revisions, names, names_below, reached_from, revision_name, storage_name, is_among}
-use Rattle.doc_model.specs.Turns.{Turn, first_refusal, unless}
-use Rattle.doc_model.specs.Weights.{weight, weight_of}
+use Rattle.doc_model.specs.rules.Files.{file}
+use Rattle.doc_model.specs.rules.Finding.{Mappings, as_index, as_storage, as_cell, as_revision, as_group, find_element, said}
+use Rattle.doc_model.specs.rules.Limits.{most_file, most_added_weight, most_reached_weight}
+use Rattle.doc_model.specs.rules.Puts.{put, committed, commit_reasons, commit_refusal, grown, has_chains, has_invalid, is_foreign, is_invalid, is_new, too_large, too_much_added}
+use Rattle.doc_model.specs.rules.Reached.{absent, blob_of, blob_name, cell_name, cells_of, currents_of, each_once, group_name, named_along, named_blobs, named_groups, named_revisions, names, names_below, reached_from, revision_name, storage_name, is_among}
+use Rattle.doc_model.specs.rules.Turns.{Turn, first_refusal, unless}
+use Rattle.doc_model.specs.rules.Weights.{weight, weight_of}
 use Rattle.doc_model.proofs.AllFirst.{firsts-distinct}
 use Rattle.doc_model.proofs.EachItem.{each-none}
 use Rattle.doc_model.proofs.Reasons.{no-refusal}

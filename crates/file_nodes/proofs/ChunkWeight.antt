@@ -12,9 +12,9 @@ use Rattle.compact_values.specs.Items.{item}
 use Rattle.compact_values.specs.declared.guid.Guid.{Guid}
 use Rattle.compact_values.specs.declared.ids.ExGuid.{ExGuid}
 use Rattle.stream_objects.specs.Written.{simple_object}
-use Rattle.doc_model.specs.Nodes.{node_bytes}
-use Rattle.doc_model.specs.Weights.{weight, weight_of}
-use Rattle.doc_model.specs.WrittenElements.{declaration_bytes, data_bytes, body_bytes}
+use Rattle.doc_model.specs.rules.Nodes.{node_bytes}
+use Rattle.doc_model.specs.rules.Weights.{weight, weight_of}
+use Rattle.doc_model.specs.wire.WrittenElements.{declaration_bytes, data_bytes, body_bytes}
 use Rattle.doc_model.specs.declared.element.Object.{Object}
 use Rattle.doc_model.specs.declared.element.Element.{Element}
 use Rattle.doc_model.specs.declared.element.Body.TheVariants.{Group}

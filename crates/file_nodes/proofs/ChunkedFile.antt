@@ -11,10 +11,10 @@ use Rattle.doc_model.specs.declared.element.Element.{Element}
 use Rattle.doc_model.specs.declared.element.Body.{Body}
 use Rattle.doc_model.specs.declared.element.Object.{Object}
 use Rattle.doc_model.specs.declared.element.Root.{Root}
-use Rattle.doc_model.specs.Finding.{Mappings, Manifest, as_index, as_storage, as_cell, as_revision, as_group, said}
-use Rattle.doc_model.specs.Reached.{chain, longest}
-use Rattle.doc_model.specs.Files.{file, file_of_chain, root_chain, current_revision, as_file_object}
-use Rattle.doc_model.specs.FileObjects.{root_file}
+use Rattle.doc_model.specs.rules.Finding.{Mappings, Manifest, as_index, as_storage, as_cell, as_revision, as_group, said}
+use Rattle.doc_model.specs.rules.Reached.{chain, longest}
+use Rattle.doc_model.specs.rules.Files.{file, file_of_chain, root_chain, current_revision, as_file_object}
+use Rattle.doc_model.specs.rules.FileObjects.{root_file}
 use Rattle.file_nodes.specs.Chunks.{id_of, storage_root, root_cell, revision_root, elements_round, chunked}
 use Rattle.file_nodes.specs.Chunking.{file_objects}
 use Rattle.file_nodes.proofs.FindLaws.{find-consecutive}

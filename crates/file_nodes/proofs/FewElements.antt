@@ -1,8 +1,8 @@
 -- The put of a file that is cut may be made.
 use Rattle.std.proofs.Common.{◌≤◌, ◌+◌, arith}
 use Rattle.std.proofs.lemmas.List.Elements.{All-from_recursion}
-use Rattle.doc_model.specs.Limits.{most_objects}
-use Rattle.doc_model.specs.Weights.{objects_written}
+use Rattle.doc_model.specs.rules.Limits.{most_objects}
+use Rattle.doc_model.specs.rules.Weights.{objects_written}
 use Rattle.file_nodes.specs.ChunkLaws.{CutFileMayBePut}
 use Rattle.file_nodes.specs.Chunks.{chunked}
 use Rattle.file_nodes.proofs.PartLaws.{length-file_objects}

@@ -7,8 +7,8 @@ use Rattle.std.proofs.lemmas.List.Folds.{find_at}
 use Rattle.std.proofs.lemmas.Option.{same_Some, slice_get-get_or}
 use Rattle.compact_values.specs.declared.ids.ExGuid.{ExGuid}
 use Rattle.compact_values.specs.SameIds.{same_id}
-use Rattle.doc_model.specs.FileObjects.{FileObject, joined, node_file, file_below}
-use Rattle.doc_model.specs.Nodes.{node_size}
+use Rattle.doc_model.specs.rules.FileObjects.{FileObject, joined, node_file, file_below}
+use Rattle.doc_model.specs.rules.Nodes.{node_size}
 use Rattle.file_nodes.specs.FileAnswers.{Agrees, stored_file, IsFile, IsTooLarge, IsFileAnswer, IsOrNoMemory, Exactly}
 use Rattle.file_nodes.specs.FileWalks.{as_file_object, stored_objects, find_stored, total, arrived, arrive, behind, walk, walk_from, walk_root, fault_of, first_fault}
 use Rattle.file_nodes.specs.Links.{place_of, below_table, joined_from, answer_by, node_answer, answer_at, file_answer}

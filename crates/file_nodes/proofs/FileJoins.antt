@@ -9,8 +9,8 @@ use Rattle.std.proofs.lemmas.List.Folds.{find_at}
 use Rattle.std.proofs.lemmas.Option.{slice_get-map, cond_some, same_Some}
 use Rattle.compact_values.specs.declared.ids.ExGuid.{ExGuid}
 use Rattle.compact_values.specs.SameIds.{same_id}
-use Rattle.doc_model.specs.FileObjects.{FileObject, joined, of_node, node_file, file_below}
-use Rattle.doc_model.specs.Nodes.{node_size}
+use Rattle.doc_model.specs.rules.FileObjects.{FileObject, joined, of_node, node_file, file_below}
+use Rattle.doc_model.specs.rules.Nodes.{node_size}
 use Rattle.file_nodes.specs.FileAnswers.{Agrees}
 use Rattle.file_nodes.specs.FileWalks.{as_file_object, stored_objects, find_stored, arrived, arrive, walk}
 use Rattle.file_nodes.specs.Links.{place_of, link_of, has_bytes, filled, file_at, file_from, below_table}

@@ -11,8 +11,8 @@ use Rattle.sha2.specs.Sha256.{sha256, digest_bytes, final_hash, initial_hash_256
 use Rattle.compact_values.specs.declared.guid.Guid.{Guid}
 use Rattle.compact_values.specs.declared.ids.ExGuid.{ExGuid}
 use Rattle.doc_model.specs.declared.element.Element.{Element}
-use Rattle.doc_model.specs.FileObjects.{FileObject, find_object, joined, node_file, file_below, root_file}
-use Rattle.doc_model.specs.Files.{as_file_object}
+use Rattle.doc_model.specs.rules.FileObjects.{FileObject, find_object, joined, node_file, file_below, root_file}
+use Rattle.doc_model.specs.rules.Files.{as_file_object}
 use Rattle.doc_model.proofs.NodeLaws.{node_size-node_bytes}
 use Rattle.file_nodes.specs.Pieces.{pieces_within, pieces}
 use Rattle.file_nodes.specs.Chunks.{id_of}

@@ -4,7 +4,7 @@ use Rattle.std.specs.Prelude.{cond}
 use Rattle.std.specs.Option.{option_map}
 use Rattle.std.proofs.lemmas.Bool.{cases_Bool}
 use Rattle.compact_values.specs.declared.ids.ExGuid.{ExGuid}
-use Rattle.doc_model.specs.Nodes.{node_size}
+use Rattle.doc_model.specs.rules.Nodes.{node_size}
 use Rattle.file_nodes.specs.FileWalks.{find_stored, together, total, arrived, arrive, judged, behind, walk}
 use Rattle.file_nodes.specs.declared.fault.NodeFault.{NodeFault}
 use Rattle.file_nodes.specs.declared.fault.NodeFault.TheVariants.{TooLarge}

@@ -7,7 +7,7 @@ use Rattle.std.proofs.lemmas.List.Folds.{find_at}
 use Rattle.std.proofs.lemmas.Option.{slice_get-get_or}
 use Rattle.compact_values.specs.declared.ids.ExGuid.{ExGuid}
 use Rattle.compact_values.specs.SameIds.{same_id}
-use Rattle.doc_model.specs.FileObjects.{node_file, file_below}
+use Rattle.doc_model.specs.rules.FileObjects.{node_file, file_below}
 use Rattle.file_nodes.specs.FileAnswers.{Agrees, stored_file, IsLengthAnswer, IsOrNoMemory, LengthOfTheFile, length_said}
 use Rattle.file_nodes.specs.FileWalks.{as_file_object, stored_objects, find_stored, arrived, walk, walk_from, walk_root, fault_of}
 use Rattle.file_nodes.specs.Links.{place_of, below_table, sized_by, node_length, length_at, length_answer}

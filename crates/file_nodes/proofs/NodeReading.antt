@@ -8,7 +8,7 @@ use Rattle.stream_objects.specs.declared.fault.TreeFault.{TreeFault}
 use Rattle.stream_objects.specs.declared.fault.TreeFault.TheVariants.{NoMemory}
 use Rattle.stream_objects.specs.declared.tree.Tree.{Tree}
 use Rattle.stream_objects.proofs.ReadTrees.{spelled_is_read, read_is_spelled}
-use Rattle.doc_model.specs.Nodes.{size_of_node, node_size}
+use Rattle.doc_model.specs.rules.Nodes.{size_of_node, node_size}
 
 module _ (bytes : List ℕ) (answer : Result (Tree × ℕ) TreeFault) (found : (tree : Tree) (next : ℕ) → Exactly answer (Ok (tree, next)) (IsTreeAt bytes tree 0 next)) where
   -- a tree that ends with the bytes

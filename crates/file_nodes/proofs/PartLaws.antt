@@ -8,7 +8,7 @@ use Rattle.std.proofs.lemmas.List.{length-append, length-map, map-append, append
 use Rattle.sha2.specs.Sha256.{sha256}
 use Rattle.compact_values.specs.declared.guid.Guid.{Guid}
 use Rattle.compact_values.specs.declared.ids.ExGuid.{ExGuid}
-use Rattle.doc_model.specs.Nodes.{node_bytes}
+use Rattle.doc_model.specs.rules.Nodes.{node_bytes}
 use Rattle.file_nodes.specs.Pieces.{pieces}
 use Rattle.file_nodes.specs.Chunks.{id_of}
 use Rattle.file_nodes.specs.Chunking.{Part, Levels, inline, leaf, node, numbered, objects_of, ids_of, joined_files, levels_within, leaves, levels, file_objects}

@@ -6,8 +6,8 @@ use Rattle.std.proofs.lemmas.Bool.{cases_Bool}
 use Rattle.std.proofs.lemmas.List.{length-append}
 use Rattle.compact_values.specs.declared.ids.ExGuid.{ExGuid}
 use Rattle.compact_values.specs.SameIds.{same_id}
-use Rattle.doc_model.specs.FileObjects.{FileObject, find_object, joined, of_node, node_file, file_below, root_file}
-use Rattle.doc_model.specs.Nodes.{node_size}
+use Rattle.doc_model.specs.rules.FileObjects.{FileObject, find_object, joined, of_node, node_file, file_below, root_file}
+use Rattle.doc_model.specs.rules.Nodes.{node_size}
 use Rattle.file_nodes.specs.FileWalks.{as_file_object, stored_objects, find_stored, together, total, arrived, arrive, judged, behind, walk, walk_from, walk_root}
 use Rattle.file_nodes.specs.FileAnswers.{Agrees}
 use Rattle.file_nodes.specs.declared.fault.NodeFault.{NodeFault}

@@ -7,7 +7,7 @@ use Rattle.std.proofs.lemmas.List.Folds.{find_at}
 use Rattle.std.proofs.lemmas.Option.{slice_get-map}
 use Rattle.compact_values.specs.declared.ids.ExGuid.{ExGuid}
 use Rattle.compact_values.specs.SameIds.{same_id}
-use Rattle.doc_model.specs.Nodes.{node_size}
+use Rattle.doc_model.specs.rules.Nodes.{node_size}
 use Rattle.file_nodes.specs.FileWalks.{find_stored, together, total, arrived, arrive, behind, walk}
 use Rattle.file_nodes.specs.Links.{place_of, said_by, link_of, total_by, node_by, walk_by}
 use Rattle.file_nodes.specs.declared.fault.NodeFault.{NodeFault}

@@ -5,11 +5,11 @@ use Rattle.compact_values.specs.declared.ids.ExGuid.TheVariants as exguids
 use Rattle.doc_model.specs.declared.call.Put.{Put}
 use Rattle.doc_model.specs.declared.call.Sub.TheVariants as sub
 use Rattle.doc_model.specs.declared.doc.Doc.{Doc}
-use Rattle.doc_model.specs.Apply.{empty_doc}
-use Rattle.doc_model.specs.Files.{file}
-use Rattle.doc_model.specs.Limits.{most_file}
-use Rattle.doc_model.specs.Puts.{put, commit_refusal, committed}
-use Rattle.doc_model.specs.Sound.{IsValidSub}
+use Rattle.doc_model.specs.rules.Apply.{empty_doc}
+use Rattle.doc_model.specs.rules.Files.{file}
+use Rattle.doc_model.specs.rules.Limits.{most_file}
+use Rattle.doc_model.specs.rules.Puts.{put, commit_refusal, committed}
+use Rattle.doc_model.specs.rules.Sound.{IsValidSub}
 use Rattle.file_nodes.specs.declared.chunking.Chunked.{Chunked}
 use Rattle.file_nodes.specs.Chunks.{chunked}
 

@@ -8,7 +8,7 @@ use Rattle.compact_values.specs.declared.ids.ExGuid.TheVariants.{Id}
 use Rattle.stream_objects.specs.declared.object_types.TheConstants.{INTERMEDIATE_NODE, ROOT_NODE}
 use Rattle.doc_model.specs.declared.element.Object.{Object}
 use Rattle.doc_model.specs.declared.element.Content.TheVariants.{Inline}
-use Rattle.doc_model.specs.Nodes.{node_bytes}
+use Rattle.doc_model.specs.rules.Nodes.{node_bytes}
 use Rattle.file_nodes.specs.Pieces.{pieces}
 
 -- an object that has its bytes with it

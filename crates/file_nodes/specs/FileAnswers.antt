@@ -1,8 +1,8 @@
 -- What the reader of a file answers.
 use Rattle.std.specs.Prelude.{◌≡◌, ◌≢◌, ℕ, ◌<◌, ◌≤◌, ◌⊎◌, List, length, Option, Some, None, Result, Ok, Err}
 use Rattle.compact_values.specs.declared.ids.ExGuid.{ExGuid}
-use Rattle.doc_model.specs.FileObjects.{root_file}
-use Rattle.doc_model.specs.Limits.{most_file}
+use Rattle.doc_model.specs.rules.FileObjects.{root_file}
+use Rattle.doc_model.specs.rules.Limits.{most_file}
 use Rattle.file_nodes.specs.FileWalks.{stored_objects, first_fault}
 use Rattle.file_nodes.specs.declared.fault.NodeFault.{NodeFault}
 use Rattle.file_nodes.specs.declared.fault.NodeFault.TheVariants.{Absent, TooHigh, NotANode, SizeDiffers, TooLarge, NoMemory}

@@ -3,11 +3,11 @@ use Rattle.std.specs.Prelude.{ℕ, zero, suc, ◌-◌, ◌==◌, nat_lt, Bool, f
 use Rattle.std.specs.List.{flat_map, position_or_len}
 use Rattle.compact_values.specs.declared.ids.ExGuid.{ExGuid}
 use Rattle.compact_values.specs.SameIds.{same_id}
-use Rattle.doc_model.specs.Nodes.{node_size}
+use Rattle.doc_model.specs.rules.Nodes.{node_size}
 use Rattle.file_nodes.specs.FileWalks.{together, arrived, behind, walk}
 use Rattle.file_nodes.specs.declared.fault.NodeFault.{NodeFault}
 use Rattle.file_nodes.specs.declared.fault.NodeFault.TheVariants.{Absent, TooLarge}
-use Rattle.doc_model.specs.Limits.{most_file, most_high}
+use Rattle.doc_model.specs.rules.Limits.{most_file, most_high}
 use Rattle.file_nodes.specs.declared.links.Link.{Link}
 use Rattle.file_nodes.specs.StoredObjects.{StoredObject}
 

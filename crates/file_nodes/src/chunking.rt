@@ -1,7 +1,7 @@
 //! A file cut into the objects and data elements by which it is saved (MS-FSSHTTPD 2.4).
 
 ghost use Rattle.std.specs.Prelude.{◌≡◌, ◌≤◌, length, IfOk, Some};
-ghost use Rattle.doc_model.specs.Files.{file};
+ghost use Rattle.doc_model.specs.rules.Files.{file};
 ghost use Rattle.file_nodes.specs.Chunks.{chunked};
 
 use crate::file_elements::file_elements;

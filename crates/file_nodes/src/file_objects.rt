@@ -7,7 +7,7 @@ ghost use Rattle.sha2.specs.Sha256.{sha256};
 ghost use Rattle.compact_values.specs.Compact.{little_endian};
 ghost use Rattle.compact_values.specs.Items.{item};
 ghost use Rattle.stream_objects.specs.Written.{simple_object};
-ghost use Rattle.doc_model.specs.Nodes.{node_bytes};
+ghost use Rattle.doc_model.specs.rules.Nodes.{node_bytes};
 ghost use Rattle.file_nodes.specs.Pieces.{pieces};
 ghost use Rattle.file_nodes.specs.Chunks.{id_of};
 ghost use Rattle.file_nodes.specs.Chunking.{inline, node, numbered, objects_of, ids_of, leaves, levels, file_objects};
@@ -48,7 +48,7 @@ fn append_size(alloc: Global, out: &mut Octets, size: u64) -> Result<(), NoMemor
 }
 
 /// The bytes of a node over these bytes of the file.
-#[tactic(auto, unfolding(doc_model::specs::Nodes::node_bytes))]
+#[tactic(auto, unfolding(doc_model::specs::rules::Nodes::node_bytes))]
 fn node_bytes(alloc: Global, kind: u16, file: &[u8]) -> Result<Octets, NoMemory>
     requires { kind ≤ 63 }
     ensures { IfOk result (λ bytes. bytes ≡ node_bytes kind (sha256 file.now) (length file.now)) }

@@ -5,8 +5,8 @@ ghost use Rattle.std.specs.Prelude.{◌≡◌, ◌≤◌, ℕ, List, length, Som
 ghost use Rattle.std.specs.List.{AllByRecursion};
 ghost use Rattle.compact_values.specs.declared.guid.Guid.{Guid};
 ghost use Rattle.compact_values.specs.declared.ids.ExGuid.{ExGuid};
-ghost use Rattle.doc_model.specs.FileObjects.{root_file};
-ghost use Rattle.doc_model.specs.Files.{file};
+ghost use Rattle.doc_model.specs.rules.FileObjects.{root_file};
+ghost use Rattle.doc_model.specs.rules.Files.{file};
 ghost use Rattle.file_nodes.specs.ChunkLaws.{CutFileIsStored, CutFileMayBePut};
 ghost use Rattle.file_nodes.specs.Chunking.{file_objects};
 ghost use Rattle.file_nodes.specs.Chunks.{chunked};

@@ -2,7 +2,7 @@
 
 ghost use Rattle.std.specs.Prelude.{◌≡◌, ◌≢◌, IfOk, None, is_some, option_map};
 ghost use Rattle.stream_objects.specs.declared.fault.TreeFault.TheVariants as faults;
-ghost use Rattle.doc_model.specs.Nodes.{only_fields, signature_said, size_said, is_node, size_of_node, node_size};
+ghost use Rattle.doc_model.specs.rules.Nodes.{only_fields, signature_said, size_said, is_node, size_of_node, node_size};
 
 use compact_values::{NoMemory, take_item, take_long};
 use std::alloc::Global;

@@ -1,7 +1,7 @@
 // Elements by serial number and by id.
 ghost use Rattle.std.specs.Prelude.{◌≤◌, IfOk, IsTrue};
-ghost use Rattle.doc_model.specs.Limits.{most_objects};
-ghost use Rattle.doc_model.specs.Weights.{objects_written};
+ghost use Rattle.doc_model.specs.rules.Limits.{most_objects};
+ghost use Rattle.doc_model.specs.rules.Weights.{objects_written};
 
 use compact_values::{ExGuid, Guid, NoMemory, Octets};
 use doc_model::{Body, Element, weight};

@@ -1,9 +1,9 @@
 -- The body of a change is neither empty nor too long.
 use Rattle.std.proofs.Common.{◌≡◌, ◌≤◌, true, length, refl, arith}
 use Rattle.cell_journal.specs.Layout.{IsBody}
-use Rattle.doc_model.specs.Histories.{can_move}
+use Rattle.doc_model.specs.rules.Histories.{can_move}
 use Rattle.doc_model.specs.declared.call.Call.{Call}
-use Rattle.doc_model.specs.Sound.{Valid}
+use Rattle.doc_model.specs.rules.Sound.{Valid}
 use Rattle.change_record.specs.Changes.{change_bytes, IsShort}
 use Rattle.change_record.specs.Kinds.{tag}
 use Rattle.change_record.specs.FittingCalls.{FitsCall}

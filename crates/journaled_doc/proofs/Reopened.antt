@@ -7,7 +7,7 @@ use Rattle.cell_journal.specs.Journals.{Stands, IsOneOf}
 use Rattle.cell_journal.specs.Layout.{Image}
 use Rattle.cell_journal.specs.declared.state.Reading.{Reading}
 use Rattle.cell_journal.specs.declared.state.Journal.{Journal}
-use Rattle.doc_model.specs.Apply.{empty_doc}
+use Rattle.doc_model.specs.rules.Apply.{empty_doc}
 use Rattle.doc_model.specs.declared.call.Call.{Call}
 use Rattle.doc_model.specs.declared.doc.Doc.{Doc}
 use Rattle.change_record.specs.Changes.{change_bytes, IsChange}

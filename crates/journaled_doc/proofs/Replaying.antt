@@ -12,7 +12,7 @@ use Rattle.cell_journal.specs.Readings.{HasGiven, Gives}
 use Rattle.cell_journal.specs.declared.reading.Got.{Got}
 use Rattle.cell_journal.specs.declared.reading.Got.TheVariants.{Body}
 use Rattle.cell_journal.specs.declared.state.Reading.{Reading}
-use Rattle.doc_model.specs.Apply.{apply, empty_doc}
+use Rattle.doc_model.specs.rules.Apply.{apply, empty_doc}
 use Rattle.doc_model.specs.declared.call.Call.{Call}
 use Rattle.doc_model.specs.declared.doc.Doc.{Doc}
 use Rattle.change_record.specs.Changes.{change_bytes, IsChange}

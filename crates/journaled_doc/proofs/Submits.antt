@@ -5,9 +5,9 @@ use Rattle.std.proofs.lemmas.List.{append-nil, map-append, length-map}
 use Rattle.std.specs.List.{AllByRecursion}
 use Rattle.std.specs.declared.snapshot.Snapshot.{Snapshot}
 use Rattle.compact_values.specs.declared.guid.Guid.{Guid}
-use Rattle.doc_model.specs.Apply.{apply, empty_doc, replay}
-use Rattle.doc_model.specs.Histories.{History, EachMoves}
-use Rattle.doc_model.specs.HistoryLaws.{gained}
+use Rattle.doc_model.specs.rules.Apply.{apply, empty_doc, replay}
+use Rattle.doc_model.specs.rules.Histories.{History, EachMoves}
+use Rattle.doc_model.specs.laws.Histories.{gained}
 use Rattle.doc_model.specs.declared.call.Call.{Call}
 use Rattle.doc_model.specs.declared.doc.Doc.{Doc}
 use Rattle.doc_model.specs.declared.reply.Submitted.{Submitted}

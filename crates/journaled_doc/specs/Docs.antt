@@ -2,10 +2,10 @@
 use Rattle.std.specs.Prelude.{◌≡◌, ◌⊎◌, ℕ, ◌+◌, ◌≤◌, Bool, true, false, if◌then◌else◌, List, [], ◌∷◌, ◌++◌, length, map, Option, Some, None}
 use Rattle.host_edge.specs.Causes.{Rose}
 use Rattle.host_edge.specs.Disks.{LeavesOnly}
-use Rattle.doc_model.specs.Apply.{apply, replay}
-use Rattle.doc_model.specs.Histories.{History, EachMoves}
-use Rattle.doc_model.specs.Limits.{most_bodies}
-use Rattle.doc_model.specs.Turns.{Turn}
+use Rattle.doc_model.specs.rules.Apply.{apply, replay}
+use Rattle.doc_model.specs.rules.Histories.{History, EachMoves}
+use Rattle.doc_model.specs.rules.Limits.{most_bodies}
+use Rattle.doc_model.specs.rules.Turns.{Turn}
 use Rattle.doc_model.specs.declared.call.Call.{Call}
 use Rattle.doc_model.specs.declared.doc.Doc.{Doc}
 use Rattle.doc_model.specs.declared.reply.Submitted.{Submitted}

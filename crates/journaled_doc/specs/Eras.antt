@@ -4,7 +4,7 @@ use Rattle.std.specs.Prelude.{ℕ, Bool, List, [], ◌∷◌, ◌++◌, map, fol
 use Rattle.std.specs.List.{AllByRecursion}
 use Rattle.compact_values.specs.declared.guid.Guid.{Guid}
 use Rattle.cell_journal.specs.Journals.{IsSafe}
-use Rattle.doc_model.specs.Apply.{apply, empty_doc}
+use Rattle.doc_model.specs.rules.Apply.{apply, empty_doc}
 use Rattle.doc_model.specs.declared.call.Call.{Call}
 use Rattle.doc_model.specs.declared.doc.Doc.{Doc}
 use Rattle.change_record.specs.Changes.{change_bytes, IsChange}

@@ -10,7 +10,7 @@ use Rattle.cell_journal.specs.declared.fault.JournalFault.TheVariants as journal
 use Rattle.cell_journal.specs.declared.state.Reading.{Reading}
 use Rattle.change_record.specs.Changes.{change_bytes, IsChange}
 use Rattle.change_record.specs.FittingCalls.{FitsCall}
-use Rattle.doc_model.specs.Apply.{apply, empty_doc}
+use Rattle.doc_model.specs.rules.Apply.{apply, empty_doc}
 use Rattle.doc_model.specs.declared.call.Call.{Call}
 use Rattle.doc_model.specs.declared.doc.Doc.{Doc}
 use Rattle.journaled_doc.specs.Docs.{InEra}

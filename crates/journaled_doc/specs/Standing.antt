@@ -3,7 +3,7 @@ use Rattle.std.specs.Prelude.{◌≡◌, ◌⊎◌, ℕ, ◌≤◌, Bool, true, 
 use Rattle.compact_values.specs.declared.guid.Guid.{Guid}
 use Rattle.host_edge.specs.Causes.{Rose}
 use Rattle.cell_journal.specs.Journals.{IsOneOf, Stands}
-use Rattle.doc_model.specs.Limits.{most_bodies}
+use Rattle.doc_model.specs.rules.Limits.{most_bodies}
 use Rattle.doc_model.specs.declared.call.Call.{Call}
 use Rattle.doc_model.specs.declared.reply.Submitted.{Submitted}
 use Rattle.doc_model.specs.declared.reply.Submitted.TheVariants.{Answered, DiskFault, JournalFull, NoMemory}

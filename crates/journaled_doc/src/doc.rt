@@ -24,10 +24,10 @@ impl<C: Core, D: Disk> JournaledDoc<C, D> {
     ghost use Rattle.std.specs.Prelude.{◌≡◌, ◌+◌, ◌-◌, ◌≤◌, ◌++◌, true, List, ℕ, IfOk, length, None};
     ghost use Rattle.host_edge.specs.Disks.{LeavesOnly};
     ghost use Rattle.change_record.specs.Changes.{IsShort};
-    ghost use Rattle.doc_model.specs.Apply.{apply};
-    ghost use Rattle.doc_model.specs.HistoryLaws.{gained};
-    ghost use Rattle.doc_model.specs.Limits.{most_bodies};
-    ghost use Rattle.doc_model.specs.Sound.{Valid};
+    ghost use Rattle.doc_model.specs.rules.Apply.{apply};
+    ghost use Rattle.doc_model.specs.laws.Histories.{gained};
+    ghost use Rattle.doc_model.specs.rules.Limits.{most_bodies};
+    ghost use Rattle.doc_model.specs.rules.Sound.{Valid};
     ghost use Rattle.doc_story.specs.Stories.{forgotten};
     ghost use Rattle.doc_story.specs.Telling.{told};
     ghost use Rattle.journaled_doc.specs.Eras.{Event, era, IsKeepable};

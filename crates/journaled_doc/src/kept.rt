@@ -1,8 +1,8 @@
 // The journal with the change whose append failed, and how a change is kept.
 ghost use Rattle.std.specs.Prelude.{◌≡◌, true, IfOk, length};
 ghost use Rattle.change_record.specs.Changes.{change_bytes, IsShort};
-ghost use Rattle.doc_model.specs.Histories.{can_move};
-ghost use Rattle.doc_model.specs.Sound.{Valid};
+ghost use Rattle.doc_model.specs.rules.Histories.{can_move};
+ghost use Rattle.doc_model.specs.rules.Sound.{Valid};
 ghost use Rattle.journaled_doc.specs.Eras.{IsKeepable};
 ghost use Rattle.journaled_doc.specs.Unkepts.{submitted_of};
 
@@ -38,7 +38,7 @@ impl<D: Disk> Kept<D> {
     ghost use Rattle.std.specs.Prelude.{◌≡◌, ◌≢◌, ◌↔◌, ◌+◌, ◌≤◌, ◌++◌, [], ◌∷◌, List, ℕ, IsTrue, IfErr, OnOk, OnErr, IsErrOf, Some, None, true};
     ghost use Rattle.host_edge.specs.Causes.{Rose};
     ghost use Rattle.host_edge.specs.Disks.{LeavesOnly};
-    ghost use Rattle.doc_model.specs.Limits.{most_bodies};
+    ghost use Rattle.doc_model.specs.rules.Limits.{most_bodies};
     ghost use Rattle.doc_model.specs.declared.call.Call.{Call};
     ghost use Rattle.change_record.specs.Changes.{change_bytes};
     ghost use Rattle.journaled_doc.specs.Standing.{IsStanding, tried_of, LeavesTried, IsDiskFault};
@@ -162,12 +162,12 @@ fn submitted_of(unkept: Unkept) -> Submitted
 impl<D: Disk> Kept<D> {
     ghost use Rattle.journaled_doc.specs.Eras.{IsKeepable};
     ghost use Rattle.std.specs.Prelude.{◌≡◌, ◌≢◌, ◌↔◌, ◌+◌, ◌≤◌, ◌++◌, [], ◌∷◌, List, ℕ, IsTrue, IfErr, OnOk, OnErr, IsErrOf, Some, None, true};
-    ghost use Rattle.doc_model.specs.Limits.{most_bodies};
+    ghost use Rattle.doc_model.specs.rules.Limits.{most_bodies};
     ghost use Rattle.doc_model.specs.declared.call.Call.{Call};
     ghost use Rattle.change_record.specs.Changes.{IsShort};
     ghost use Rattle.host_edge.specs.Causes.{Rose};
     ghost use Rattle.host_edge.specs.Disks.{LeavesOnly};
-    ghost use Rattle.doc_model.specs.Histories.{can_move};
+    ghost use Rattle.doc_model.specs.rules.Histories.{can_move};
     ghost use Rattle.journaled_doc.specs.Standing.{IsStanding, tried_of, IsDiskFault, IsKeptAs, IsLeft, HasSubmitCause, IsFull, if_moved};
 
     /// Keeps the change of a call that moves; for one that doesn't, nothing is done.

@@ -8,7 +8,7 @@ ghost use Rattle.cell_journal.specs.Faults.{FailsAt};
 ghost use Rattle.cell_journal.specs.Readings.{HasGiven};
 ghost use Rattle.change_record.specs.Changes.{IsChange};
 ghost use Rattle.change_record.specs.FittingCalls.{FitsCall};
-ghost use Rattle.doc_model.specs.Apply.{apply, empty_doc};
+ghost use Rattle.doc_model.specs.rules.Apply.{apply, empty_doc};
 ghost use Rattle.doc_model.specs.declared.call.Call.{Call};
 ghost use Rattle.journaled_doc.specs.Eras.{Event, Created, NotOpened, Keeps};
 ghost use Rattle.journaled_doc.specs.Docs.{history, IsJournaled, InEra, IsNew};

@@ -4,7 +4,7 @@ use Rattle.std.proofs.lemmas.List.Folds.{list_any_more}
 use Rattle.std.specs.List.{insert, list_all, remove_range}
 use Rattle.compact_values.specs.declared.guid.Guid.{Guid}
 use Rattle.doc_model.specs.declared.knowledge.Range.{Range}
-use Rattle.doc_model.specs.Pulls.{knows}
+use Rattle.doc_model.specs.rules.Pulls.{knows}
 use Rattle.knowledge_set.specs.Maximal.{has_some, is_apart, are_maximal}
 use Rattle.knowledge_set.specs.Joined.{has, hull, place_in, absorbed, with_range}
 use Rattle.knowledge_set.proofs.Apart.{trans, apart-or-not, empty-has, has-one, hull-has, hull-some, before-hull, not-before-hull}

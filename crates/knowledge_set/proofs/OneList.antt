@@ -4,7 +4,7 @@ use Rattle.std.proofs.lemmas.Bool.Decides.{nat_tests}
 use Rattle.std.specs.List.{list_all}
 use Rattle.compact_values.specs.declared.guid.Guid.{Guid}
 use Rattle.doc_model.specs.declared.knowledge.Range.{Range}
-use Rattle.doc_model.specs.Pulls.{knows}
+use Rattle.doc_model.specs.rules.Pulls.{knows}
 use Rattle.knowledge_set.specs.Maximal.{has_some, is_apart, are_maximal, KnowTheSame, OneMaximalList}
 use Rattle.knowledge_set.specs.Joined.{has}
 use Rattle.knowledge_set.proofs.Apart.{other-lacks, next-lacks, own-next, own-first, in-own, in-other, reaches}

@@ -4,7 +4,7 @@ use Rattle.std.specs.List.{list_all}
 use Rattle.std.specs.List.Sorted.{IsPartitionedBy, IsPartitionPoint}
 use Rattle.compact_values.specs.declared.guid.Guid.{Guid}
 use Rattle.doc_model.specs.declared.knowledge.Range.{Range}
-use Rattle.doc_model.specs.Pulls.{knows}
+use Rattle.doc_model.specs.rules.Pulls.{knows}
 use Rattle.knowledge_set.specs.Maximal.{has_some, is_apart, are_maximal}
 use Rattle.knowledge_set.specs.Joined.{has, place_in}
 use Rattle.knowledge_set.proofs.Apart.{trans, one-had, behind-lacks, before-lacks}

@@ -4,7 +4,7 @@ use Rattle.std.specs.List.{list_all}
 use Rattle.compact_values.specs.declared.guid.Guid.{Guid}
 use Rattle.compact_values.specs.SameIds.{same_guid}
 use Rattle.doc_model.specs.declared.knowledge.Range.{Range}
-use Rattle.doc_model.specs.Pulls.{knows}
+use Rattle.doc_model.specs.rules.Pulls.{knows}
 
 -- whether a range has a number
 abbrev pub has_some : Range → Bool

@@ -1,7 +1,7 @@
 // A range put among ranges that are in order and as few as can be.
 ghost use Rattle.std.specs.Prelude.{◌≡◌, ℕ, ◌+◌, ◌<◌, ◌≤◌, ◌||◌, true, List, ◌∷◌, length, drop, vec_len, vec_capacity, IfOk, OnOk, OnErr, IsOk};
 ghost use Rattle.compact_values.specs.declared.guid.Guid.{Guid};
-ghost use Rattle.doc_model.specs.Pulls.{knows};
+ghost use Rattle.doc_model.specs.rules.Pulls.{knows};
 ghost use Rattle.knowledge_set.specs.Maximal.{has_some, is_apart, are_maximal, KnowTheSame};
 ghost use Rattle.knowledge_set.specs.Joined.{has, hull, place_in, absorbed, with_range};
 

@@ -1,7 +1,7 @@
 // A set of serial numbers, as ranges that are in order and as few as can be.
 ghost use Rattle.std.specs.Prelude.{◌≡◌, ℕ, ◌+◌, ◌≤◌, ◌||◌, true, IfOk, OnOk, OnErr};
 ghost use Rattle.compact_values.specs.declared.guid.Guid.{Guid};
-ghost use Rattle.doc_model.specs.Pulls.{knows};
+ghost use Rattle.doc_model.specs.rules.Pulls.{knows};
 ghost use Rattle.knowledge_set.specs.Maximal.{are_maximal, KnowTheSame};
 
 use crate::joining::{has, join_few, joined, place};

@@ -3,7 +3,7 @@ use Rattle.std.proofs.Common.{◌≡◌, ℕ, refl, Bool, true, false, ◌||◌,
 use Rattle.std.specs.List.{list_any}
 use Rattle.compact_values.specs.declared.guid.Guid.{Guid}
 use Rattle.doc_model.specs.declared.lock.Member.{Member}
-use Rattle.doc_model.specs.Locks.{shared_by, allowed, carries, is_live}
+use Rattle.doc_model.specs.rules.Locks.{shared_by, allowed, carries, is_live}
 
 module _ (schema : Guid) (m : ℕ) (carried : Option Guid) where
   abbrev lets : List Member → Bool

@@ -2,7 +2,7 @@
 use Rattle.std.specs.Prelude.{◌≡◌}
 use Rattle.compact_values.specs.declared.guid.Guid.{Guid}
 use Rattle.doc_model.specs.declared.lock.LockRecord.{LockRecord}
-use Rattle.doc_model.specs.LockSteps.{LockTurn, on_exclusive}
+use Rattle.doc_model.specs.rules.LockSteps.{LockTurn, on_exclusive}
 use Rattle.coauth_state.specs.declared.standing.Standing.{Standing}
 use Rattle.coauth_state.specs.Standings.{turn_at}
 

@@ -1,6 +1,6 @@
 ghost use Rattle.std.specs.Prelude.{◌≡◌};
 ghost use Rattle.std.specs.List.{list_any};
-ghost use Rattle.doc_model.specs.Locks.{live, allowed, carries, is_live};
+ghost use Rattle.doc_model.specs.rules.Locks.{live, allowed, carries, is_live};
 
 use compact_values::Guid;
 use doc_model::{LockRecord, Member};

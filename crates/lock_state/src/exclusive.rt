@@ -1,6 +1,6 @@
 ghost use Rattle.doc_model.specs.declared.lock.LockRecord.TheVariants.{Exclusive};
 ghost use Rattle.doc_model.specs.declared.reply.Code.TheVariants.{NotLocked};
-ghost use Rattle.doc_model.specs.LockSteps.{becomes, stays, refuses, on_exclusive};
+ghost use Rattle.doc_model.specs.rules.LockSteps.{becomes, stays, refuses, on_exclusive};
 ghost use Rattle.coauth_state.specs.Turning.{IsTurn};
 ghost use Rattle.lock_state.specs.Standing.{StandsExclusive};
 

@@ -1,5 +1,5 @@
 ghost use Rattle.std.specs.Prelude.{◌≡◌};
-ghost use Rattle.doc_model.specs.LockSteps.{lock_kind, tells_lock, lock_reply};
+ghost use Rattle.doc_model.specs.rules.LockSteps.{lock_kind, tells_lock, lock_reply};
 
 use coauth_state::{LockPlan, coauthors};
 use compact_values::Guid;

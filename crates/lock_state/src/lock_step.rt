@@ -1,6 +1,6 @@
 ghost use Rattle.std.specs.Prelude.{◌≡◌, ℕ, ◌+◌, ◌<◌, ◌^◌, IfOk, IfSome};
-ghost use Rattle.doc_model.specs.Locks.{live};
-ghost use Rattle.doc_model.specs.LockSteps.{lock_turn, timeout_of};
+ghost use Rattle.doc_model.specs.rules.Locks.{live};
+ghost use Rattle.doc_model.specs.rules.LockSteps.{lock_turn, timeout_of};
 ghost use Rattle.coauth_state.specs.Turning.{IsTurn};
 
 use crate::exclusive::{change_exclusive, check_exclusive, take_exclusive};

@@ -9,8 +9,8 @@ use Rattle.compact_values.proofs.SameIds.{id-same, same-id}
 use Rattle.doc_model.specs.declared.element.Element.{Element}
 use Rattle.doc_model.specs.declared.element.RevisionMap.{RevisionMap}
 use Rattle.compact_values.specs.IdPlaces.{with_new}
-use Rattle.doc_model.specs.Finding.{Manifest, as_revision, said}
-use Rattle.doc_model.specs.Reached.{named_along, manifest_of, mapping_of, base_of, enough, is_among}
+use Rattle.doc_model.specs.rules.Finding.{Manifest, as_revision, said}
+use Rattle.doc_model.specs.rules.Reached.{named_along, manifest_of, mapping_of, base_of, enough, is_among}
 use Rattle.doc_model.proofs.EachItem.{each-append, each-as, each-all, all-each}
 use Rattle.doc_model.proofs.Once.{among-each, among-last, none-join, joining}
 use Rattle.plain_core.specs.Naming.{is_known, goes_back, is_closed}

@@ -13,10 +13,10 @@ use Rattle.doc_model.specs.declared.element.Root.{Root}
 use Rattle.doc_model.specs.declared.element.Object.{Object}
 use Rattle.doc_model.specs.declared.element.Content.{Content}
 use Rattle.doc_model.specs.declared.element.Content.TheVariants.{Inline, Apart}
-use Rattle.doc_model.specs.FileObjects.{root_file}
-use Rattle.doc_model.specs.Files.{current_revision, root_chain, objects_of, own_bytes, as_file_object, root_object, file_of_chain, file, group_objects, revision_objects}
-use Rattle.doc_model.specs.Finding.{first, said, Manifest, Mappings, as_index, as_storage, as_cell, as_blob}
-use Rattle.doc_model.specs.Reached.{absent, named_along, named_revisions, named_groups, named_blobs, enough, longest, chain, revision_name, cell_name, storage_name, group_name, blob_name, groups_of, blobs_of, blob_of, cells_of, current_of, currents_of, names, names_below}
+use Rattle.doc_model.specs.rules.FileObjects.{root_file}
+use Rattle.doc_model.specs.rules.Files.{current_revision, root_chain, objects_of, own_bytes, as_file_object, root_object, file_of_chain, file, group_objects, revision_objects}
+use Rattle.doc_model.specs.rules.Finding.{first, said, Manifest, Mappings, as_index, as_storage, as_cell, as_blob}
+use Rattle.doc_model.specs.rules.Reached.{absent, named_along, named_revisions, named_groups, named_blobs, enough, longest, chain, revision_name, cell_name, storage_name, group_name, blob_name, groups_of, blobs_of, blob_of, cells_of, current_of, currents_of, names, names_below}
 use Rattle.doc_model.proofs.Agree.{first-cell, chain-each}
 use Rattle.doc_model.proofs.EachItem.{each-back, each-map, each-flat, each-flat-map, each-as, map-same}
 use Rattle.doc_model.proofs.Once.{once-each}

@@ -12,8 +12,8 @@ use Rattle.compact_values.proofs.IdPlacing.{key-same}
 use Rattle.compact_values.proofs.SameIds.{id-same}
 use Rattle.doc_model.specs.declared.element.Element.{Element}
 use Rattle.doc_model.specs.declared.element.RevisionMap.{RevisionMap}
-use Rattle.doc_model.specs.Finding.{Manifest}
-use Rattle.doc_model.specs.Reached.{chain, manifest_of}
+use Rattle.doc_model.specs.rules.Finding.{Manifest}
+use Rattle.doc_model.specs.rules.Reached.{chain, manifest_of}
 use Rattle.plain_core.specs.Chaining.{chain_length, HasLength, TellsLengths}
 use Rattle.plain_core.specs.Keys.{IdKey}
 use Rattle.plain_core.proofs.ChainSteps.{chain-null, chain-zero, chain-one}

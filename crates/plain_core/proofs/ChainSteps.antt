@@ -5,8 +5,8 @@ use Rattle.compact_values.specs.declared.ids.ExGuid.{ExGuid}
 use Rattle.compact_values.specs.declared.ids.ExGuid.TheVariants.{Null, Id}
 use Rattle.doc_model.specs.declared.element.Element.{Element}
 use Rattle.doc_model.specs.declared.element.RevisionMap.{RevisionMap}
-use Rattle.doc_model.specs.Finding.{Manifest}
-use Rattle.doc_model.specs.Reached.{chain, manifest_of}
+use Rattle.doc_model.specs.rules.Finding.{Manifest}
+use Rattle.doc_model.specs.rules.Reached.{chain, manifest_of}
 
 module _ (added : List Element) (maps : List RevisionMap) where
   pub chain-null : (n : ℕ) → chain added maps n Null ≡ Some []

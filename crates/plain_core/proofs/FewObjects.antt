@@ -9,11 +9,11 @@ use Rattle.compact_values.specs.SameIds.{same_id}
 use Rattle.doc_model.specs.declared.doc.Doc.{Doc}
 use Rattle.doc_model.specs.declared.doc.Part.{Part}
 use Rattle.doc_model.specs.declared.element.Element.{Element}
-use Rattle.doc_model.specs.Limits.{most_objects}
-use Rattle.doc_model.specs.Puts.{find_part, pending, is_kept, other_parts}
-use Rattle.doc_model.specs.Sound.{IsSoundElement, IsSoundPart}
-use Rattle.doc_model.specs.Versions.{index_like}
-use Rattle.doc_model.specs.Weights.{objects_written}
+use Rattle.doc_model.specs.rules.Limits.{most_objects}
+use Rattle.doc_model.specs.rules.Puts.{find_part, pending, is_kept, other_parts}
+use Rattle.doc_model.specs.rules.Sound.{IsSoundElement, IsSoundPart}
+use Rattle.doc_model.specs.rules.Versions.{index_like}
+use Rattle.doc_model.specs.rules.Weights.{objects_written}
 use Rattle.doc_model.proofs.EachItem.{all-each, each-as}
 use Rattle.doc_model.proofs.SoundRestore.{few-like}
 use Rattle.plain_core.specs.Weighing.{is_few, all_few, few_parts}

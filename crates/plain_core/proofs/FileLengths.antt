@@ -5,10 +5,10 @@ use Rattle.std.proofs.lemmas.Bool.{lt-ltb, le-ltb}
 use Rattle.compact_values.specs.declared.fault.NoMemory.{NoMemory}
 use Rattle.compact_values.specs.declared.ids.ExGuid.{ExGuid}
 use Rattle.doc_model.specs.declared.element.Element.{Element}
-use Rattle.doc_model.specs.Files.{file, file_of_chain, root_chain, root_object}
-use Rattle.doc_model.specs.Finding.{Manifest}
-use Rattle.doc_model.specs.Limits.{most_file}
-use Rattle.doc_model.specs.Reached.{absent}
+use Rattle.doc_model.specs.rules.Files.{file, file_of_chain, root_chain, root_object}
+use Rattle.doc_model.specs.rules.Finding.{Manifest}
+use Rattle.doc_model.specs.rules.Limits.{most_file}
+use Rattle.doc_model.specs.rules.Reached.{absent}
 use Rattle.file_nodes.specs.FileAnswers.{Agrees, IsLengthAnswer, stored_file}
 use Rattle.file_nodes.specs.FileWalks.{fault_of, first_fault, walk_root}
 use Rattle.file_nodes.specs.declared.fault.NodeFault.{NodeFault}

@@ -5,9 +5,9 @@ use Rattle.std.proofs.lemmas.Bool.{cases_lt}
 use Rattle.compact_values.specs.declared.fault.NoMemory.{NoMemory}
 use Rattle.compact_values.specs.declared.ids.ExGuid.{ExGuid}
 use Rattle.doc_model.specs.declared.element.Element.{Element}
-use Rattle.doc_model.specs.Files.{root_object}
-use Rattle.doc_model.specs.Finding.{Manifest}
-use Rattle.doc_model.specs.Limits.{most_file}
+use Rattle.doc_model.specs.rules.Files.{root_object}
+use Rattle.doc_model.specs.rules.Finding.{Manifest}
+use Rattle.doc_model.specs.rules.Limits.{most_file}
 use Rattle.file_nodes.specs.FileAnswers.{Exactly, IsFile, IsOrNoMemory, IsTooLarge, stored_file}
 use Rattle.file_nodes.specs.declared.fault.NodeFault.{NodeFault}
 use Rattle.file_nodes.specs.declared.fault.NodeFault.TheVariants as faults

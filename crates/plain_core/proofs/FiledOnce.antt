@@ -5,9 +5,9 @@ use Rattle.compact_values.specs.declared.ids.ExGuid.{ExGuid}
 use Rattle.compact_values.specs.SameIds.{same_id}
 use Rattle.doc_model.specs.declared.element.Element.{Element}
 use Rattle.doc_model.specs.declared.element.Object.{Object}
-use Rattle.doc_model.specs.FileObjects.{FileObject, file_below, find_object, joined, node_file, of_node, root_file}
-use Rattle.doc_model.specs.Files.{group_objects, objects_of}
-use Rattle.doc_model.specs.Finding.{Manifest}
+use Rattle.doc_model.specs.rules.FileObjects.{FileObject, file_below, find_object, joined, node_file, of_node, root_file}
+use Rattle.doc_model.specs.rules.Files.{group_objects, objects_of}
+use Rattle.doc_model.specs.rules.Finding.{Manifest}
 use Rattle.doc_model.proofs.Once.{find-once}
 use Rattle.file_nodes.specs.FileAnswers.{stored_file}
 use Rattle.file_nodes.specs.FileWalks.{as_file_object, stored_objects}

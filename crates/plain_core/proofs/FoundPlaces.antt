@@ -6,8 +6,8 @@ use Rattle.compact_values.specs.IdPlaces.{place_of}
 use Rattle.compact_values.specs.SameIds.{same_id}
 use Rattle.doc_model.specs.declared.element.Element.{Element}
 use Rattle.doc_model.specs.declared.element.RevisionMap.{RevisionMap}
-use Rattle.doc_model.specs.Finding.{find_element}
-use Rattle.doc_model.specs.Reached.{mapping_of}
+use Rattle.doc_model.specs.rules.Finding.{find_element}
+use Rattle.doc_model.specs.rules.Reached.{mapping_of}
 
 -- what stands at the first place of a key
 module _ {X : Type 0} (key : X → ExGuid) where

@@ -9,7 +9,7 @@ use Rattle.compact_values.specs.SameIds.{same_id}
 use Rattle.compact_values.proofs.SameIds.{id-same}
 use Rattle.doc_model.specs.declared.element.Element.{Element}
 use Rattle.compact_values.specs.IdPlaces.{with_new}
-use Rattle.doc_model.specs.Puts.{same_ids, is_new, grown}
+use Rattle.doc_model.specs.rules.Puts.{same_ids, is_new, grown}
 
 module _ (added : List Element) where
   abbrev new : List Element → List Element

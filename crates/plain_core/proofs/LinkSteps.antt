@@ -7,8 +7,8 @@ use Rattle.compact_values.specs.SameIds.{same_id}
 use Rattle.doc_model.specs.declared.element.Element.{Element}
 use Rattle.doc_model.specs.declared.element.RevisionMap.{RevisionMap}
 use Rattle.compact_values.specs.IdPlaces.{with_new}
-use Rattle.doc_model.specs.Finding.{as_revision, said}
-use Rattle.doc_model.specs.Reached.{each_once, groups_by, groups_of, mapping_of, named_groups}
+use Rattle.doc_model.specs.rules.Finding.{as_revision, said}
+use Rattle.doc_model.specs.rules.Reached.{each_once, groups_by, groups_of, mapping_of, named_groups}
 use Rattle.doc_model.proofs.Once.{flat-once, joining}
 use Rattle.plain_core.specs.Naming.{groups_in, targets_by}
 

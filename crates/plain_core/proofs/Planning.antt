@@ -11,14 +11,14 @@ use Rattle.doc_model.specs.declared.doc.Doc.{Doc}
 use Rattle.doc_model.specs.declared.doc.Part.{Part}
 use Rattle.doc_model.specs.declared.element.Element.{Element}
 use Rattle.doc_model.specs.declared.reply.Code.TheVariants as code
-use Rattle.doc_model.specs.Drawing.{last_number}
-use Rattle.doc_model.specs.Files.{file}
-use Rattle.doc_model.specs.Limits.{most_file, most_reached_weight}
-use Rattle.doc_model.specs.Puts.{commit_reasons, commit_refusal, committed, added_by, sent_to, fresh, has_chains, has_invalid, other_parts, too_large, too_much_added}
-use Rattle.doc_model.specs.Reached.{absent, reached_from}
-use Rattle.doc_model.specs.Turns.{first_refusal}
-use Rattle.doc_model.specs.Versions.{added_by_restore, index_like, new_index, next_id, restore_refusal, restored}
-use Rattle.doc_model.specs.Weights.{weight_of}
+use Rattle.doc_model.specs.rules.Drawing.{last_number}
+use Rattle.doc_model.specs.rules.Files.{file}
+use Rattle.doc_model.specs.rules.Limits.{most_file, most_reached_weight}
+use Rattle.doc_model.specs.rules.Puts.{commit_reasons, commit_refusal, committed, added_by, sent_to, fresh, has_chains, has_invalid, other_parts, too_large, too_much_added}
+use Rattle.doc_model.specs.rules.Reached.{absent, reached_from}
+use Rattle.doc_model.specs.rules.Turns.{first_refusal}
+use Rattle.doc_model.specs.rules.Versions.{added_by_restore, index_like, new_index, next_id, restore_refusal, restored}
+use Rattle.doc_model.specs.rules.Weights.{weight_of}
 use Rattle.doc_model.proofs.Reasons.{NoneHolds, none-holds, not-less, or-neither}
 use Rattle.doc_model.proofs.SoundCommits.{all-found}
 use Rattle.doc_model.proofs.SoundElements.{IsOwned, each-fresh, each-owned}

@@ -5,8 +5,8 @@ use Rattle.std.proofs.lemmas.List.Elements.{filter-append}
 use Rattle.compact_values.specs.declared.ids.ExGuid.{ExGuid}
 use Rattle.doc_model.specs.declared.element.Element.{Element}
 use Rattle.doc_model.specs.declared.element.NumberedElement.{NumberedElement}
-use Rattle.doc_model.specs.Finding.{numbered_from}
-use Rattle.doc_model.specs.Puts.{is_sent}
+use Rattle.doc_model.specs.rules.Finding.{numbered_from}
+use Rattle.doc_model.specs.rules.Puts.{is_sent}
 use Rattle.plain_core.specs.Sending.{is_one_of}
 use Rattle.plain_core.proofs.FoundPlaces.{any-id}
 

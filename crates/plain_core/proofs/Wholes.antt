@@ -13,14 +13,14 @@ use Rattle.doc_model.specs.declared.doc.Commit.{Commit}
 use Rattle.doc_model.specs.declared.doc.Doc.{Doc}
 use Rattle.doc_model.specs.declared.element.Element.{Element}
 use Rattle.doc_model.specs.declared.element.Name.{Name}
-use Rattle.doc_model.specs.Files.{file}
-use Rattle.doc_model.specs.Finding.{find_element}
-use Rattle.doc_model.specs.Laws.{AllNamed}
-use Rattle.doc_model.specs.Limits.{most_file}
-use Rattle.doc_model.specs.Puts.{is_foreign}
-use Rattle.doc_model.specs.Reached.{absent, names}
-use Rattle.doc_model.specs.Sound.{IsDrawn, IsSoundCommit, IsSoundElement, Sound}
-use Rattle.doc_model.specs.Versions.{index_like, next_id, version}
+use Rattle.doc_model.specs.rules.Files.{file}
+use Rattle.doc_model.specs.rules.Finding.{find_element}
+use Rattle.doc_model.specs.laws.Documents.{AllNamed}
+use Rattle.doc_model.specs.rules.Limits.{most_file}
+use Rattle.doc_model.specs.rules.Puts.{is_foreign}
+use Rattle.doc_model.specs.rules.Reached.{absent, names}
+use Rattle.doc_model.specs.rules.Sound.{IsDrawn, IsSoundCommit, IsSoundElement, Sound}
+use Rattle.doc_model.specs.rules.Versions.{index_like, next_id, version}
 use Rattle.doc_model.proofs.Added.{file-stays, names-stay}
 use Rattle.doc_model.proofs.EachItem.{each-as, each-both}
 use Rattle.doc_model.proofs.LikeIndex.{file-like, maps-like, named-like}

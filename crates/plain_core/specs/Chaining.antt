@@ -5,7 +5,7 @@ use Rattle.compact_values.specs.declared.ids.ExGuid.{ExGuid}
 use Rattle.compact_values.specs.IdPlaces.{key_of, key_order}
 use Rattle.doc_model.specs.declared.element.Element.{Element}
 use Rattle.doc_model.specs.declared.element.RevisionMap.{RevisionMap}
-use Rattle.doc_model.specs.Reached.{chain}
+use Rattle.doc_model.specs.rules.Reached.{chain}
 use Rattle.plain_core.specs.Keys.{IdKey}
 
 -- how many revisions the chain of r has, None where it has no end or more than n

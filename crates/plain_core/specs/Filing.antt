@@ -3,10 +3,10 @@ use Rattle.std.specs.Prelude.{◌≡◌, ℕ, ◌<◌, ◌≤◌, List, [], map,
 use Rattle.compact_values.specs.declared.ids.ExGuid.{ExGuid}
 use Rattle.doc_model.specs.declared.element.Element.{Element}
 use Rattle.doc_model.specs.declared.element.Object.{Object}
-use Rattle.doc_model.specs.Files.{group_objects, objects_of, own_bytes, root_object}
-use Rattle.doc_model.specs.Finding.{Manifest}
-use Rattle.doc_model.specs.Limits.{most_file}
-use Rattle.doc_model.specs.Reached.{each_once}
+use Rattle.doc_model.specs.rules.Files.{group_objects, objects_of, own_bytes, root_object}
+use Rattle.doc_model.specs.rules.Finding.{Manifest}
+use Rattle.doc_model.specs.rules.Limits.{most_file}
+use Rattle.doc_model.specs.rules.Reached.{each_once}
 use Rattle.file_nodes.specs.FileAnswers.{stored_file}
 use Rattle.file_nodes.specs.StoredObjects.{StoredObject}
 use Rattle.file_nodes.specs.declared.fault.NodeFault.{NodeFault}

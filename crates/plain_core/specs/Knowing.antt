@@ -3,7 +3,7 @@ use Rattle.std.specs.Prelude.{◌≡◌, ℕ, ◌+◌, ◌<◌, ◌≤◌, nat_l
 use Rattle.std.specs.List.{list_any}
 use Rattle.compact_values.specs.declared.guid.Guid.{Guid}
 use Rattle.doc_model.specs.declared.knowledge.Range.{Range}
-use Rattle.doc_model.specs.Pulls.{knows}
+use Rattle.doc_model.specs.rules.Pulls.{knows}
 
 -- the serials from 1 on, each with whether it is known
 abbrev pub TellsEach : Guid → List Range → List Bool → Type 0

@@ -1,7 +1,7 @@
 -- How long the file at an index is, as it is answered.
 use Rattle.std.specs.Prelude.{ℕ, nat_lt, if◌then◌else◌, List, length, Option, None, Some, Result, Ok, Err}
 use Rattle.compact_values.specs.declared.fault.NoMemory.{NoMemory}
-use Rattle.doc_model.specs.Limits.{most_file}
+use Rattle.doc_model.specs.rules.Limits.{most_file}
 use Rattle.file_nodes.specs.declared.fault.NodeFault.{NodeFault}
 use Rattle.file_nodes.specs.declared.fault.NodeFault.TheVariants as faults
 use Rattle.plain_core.specs.declared.file_length.FileLength.{FileLength}

@@ -7,8 +7,8 @@ use Rattle.doc_model.specs.declared.element.Element.{Element}
 use Rattle.doc_model.specs.declared.element.ManifestMap.{ManifestMap}
 use Rattle.doc_model.specs.declared.element.Name.{Name}
 use Rattle.doc_model.specs.declared.element.RevisionMap.{RevisionMap}
-use Rattle.doc_model.specs.Finding.{Mappings, as_revision, said}
-use Rattle.doc_model.specs.Reached.{base_of, blob_name, cell_name, cells_of, currents_of, group_name, groups_by, is_among, manifest_of, named_blobs, named_groups, named_revisions, revision_name, storage_name}
+use Rattle.doc_model.specs.rules.Finding.{Mappings, as_revision, said}
+use Rattle.doc_model.specs.rules.Reached.{base_of, blob_name, cell_name, cells_of, currents_of, group_name, groups_by, is_among, manifest_of, named_blobs, named_groups, named_revisions, revision_name, storage_name}
 use Rattle.plain_core.specs.declared.naming.Below.{Below}
 
 -- whether an id is null or among these

@@ -6,9 +6,9 @@ use Rattle.doc_model.specs.declared.doc.Commit.{Commit}
 use Rattle.doc_model.specs.declared.element.Element.{Element}
 use Rattle.doc_model.specs.declared.reply.Code.{Code}
 use Rattle.doc_model.specs.declared.reply.Code.TheVariants as codes
-use Rattle.doc_model.specs.Files.{file}
-use Rattle.doc_model.specs.Puts.{is_expected, is_committed, has_chains, too_large}
-use Rattle.doc_model.specs.Reached.{absent}
+use Rattle.doc_model.specs.rules.Files.{file}
+use Rattle.doc_model.specs.rules.Puts.{is_expected, is_committed, has_chains, too_large}
+use Rattle.doc_model.specs.rules.Reached.{absent}
 
 abbrev pub entry_reasons : Bool → Bool → Bool → List (Bool × Code)
 entry_reasons locked invalid full = (locked, codes.AlreadyLocked) ∷ (invalid, codes.InvalidObject) ∷ (full, codes.StorageLimit) ∷ []

@@ -1,5 +1,5 @@
 -- What the borrowed parts of an element say.
-use Rattle.doc_model.specs.Finding as finding
+use Rattle.doc_model.specs.rules.Finding as finding
 use Rattle.plain_core.specs.declared.sayings.Mappings.{Mappings}
 use Rattle.plain_core.specs.declared.sayings.Manifest.{Manifest}
 

@@ -3,8 +3,8 @@ use Rattle.std.specs.Prelude.{ℕ, ◌-◌, nat_le, nat_lt, Bool, if◌then◌el
 use Rattle.std.specs.List.{list_all}
 use Rattle.doc_model.specs.declared.doc.Part.{Part}
 use Rattle.doc_model.specs.declared.element.Element.{Element}
-use Rattle.doc_model.specs.Limits.{most_objects}
-use Rattle.doc_model.specs.Weights.{objects_written}
+use Rattle.doc_model.specs.rules.Limits.{most_objects}
+use Rattle.doc_model.specs.rules.Weights.{objects_written}
 
 -- an element that is written in few enough stream objects to be read again
 abbrev pub is_few : Element → Bool

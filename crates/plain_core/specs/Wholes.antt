@@ -5,10 +5,10 @@ use Rattle.compact_values.specs.declared.guid.Guid.{Guid}
 use Rattle.compact_values.specs.declared.ids.ExGuid.{ExGuid}
 use Rattle.doc_model.specs.declared.doc.Commit.{Commit}
 use Rattle.doc_model.specs.declared.element.Element.{Element}
-use Rattle.doc_model.specs.Files.{file}
-use Rattle.doc_model.specs.Limits.{most_file}
-use Rattle.doc_model.specs.Puts.{is_foreign}
-use Rattle.doc_model.specs.Reached.{absent}
+use Rattle.doc_model.specs.rules.Files.{file}
+use Rattle.doc_model.specs.rules.Limits.{most_file}
+use Rattle.doc_model.specs.rules.Puts.{is_foreign}
+use Rattle.doc_model.specs.rules.Reached.{absent}
 
 -- an id that somebody may use
 abbrev pub is_usable : Guid → ℕ → Element → Bool

@@ -2,9 +2,9 @@
 ghost use Rattle.std.specs.Prelude.{◌≡◌, [], ◌∷◌, ◌++◌, map, fold, IfOk, OnOk, option_map, option_copied, slice_get};
 ghost use Rattle.std.specs.List.{list_any};
 ghost use Rattle.compact_values.specs.SameIds.{same_id};
-ghost use Rattle.doc_model.specs.Puts.{same_ids};
+ghost use Rattle.doc_model.specs.rules.Puts.{same_ids};
 ghost use Rattle.compact_values.specs.IdPlaces.{with_new};
-ghost use Rattle.doc_model.specs.Finding.{find_element, said, as_storage, as_cell, as_group, as_blob, as_index, as_revision};
+ghost use Rattle.doc_model.specs.rules.Finding.{find_element, said, as_storage, as_cell, as_group, as_blob, as_index, as_revision};
 
 use crate::sayings::{Manifest, Mappings};
 use compact_values::{Copied, ExGuid, IdIndex, NoMemory, Octets, Seq};

@@ -1,7 +1,7 @@
 // Mappings of cells, each cell once.
 ghost use Rattle.std.specs.Prelude.{◌≡◌, [], OnOk};
 ghost use Rattle.compact_values.specs.IdPlaces.{with_new};
-ghost use Rattle.doc_model.specs.Reached.{same_cells};
+ghost use Rattle.doc_model.specs.rules.Reached.{same_cells};
 
 use crate::keys::cell_key;
 use compact_values::{IdKey, NoMemory, Seq};

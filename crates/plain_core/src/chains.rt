@@ -1,8 +1,8 @@
 // The chains of bases of an index.
 ghost use Rattle.std.specs.Prelude.{◌≡◌, IfOk, OnOk, is_some};
 ghost use Rattle.std.specs.List.{list_all};
-ghost use Rattle.doc_model.specs.Puts.{has_chains};
-ghost use Rattle.doc_model.specs.Reached.{chain, longest};
+ghost use Rattle.doc_model.specs.rules.Puts.{has_chains};
+ghost use Rattle.doc_model.specs.rules.Reached.{chain, longest};
 ghost use Rattle.plain_core.specs.Cataloging.{listed};
 ghost use Rattle.plain_core.specs.Chaining.{chain_length, TellsLengths};
 

@@ -1,7 +1,7 @@
 // Whether the elements of an upload may be added.
 ghost use Rattle.std.specs.Prelude.{◌≡◌, ◌++◌, option_copied};
 ghost use Rattle.std.specs.List.{list_any};
-ghost use Rattle.doc_model.specs.Puts.{is_foreign, differs, is_invalid};
+ghost use Rattle.doc_model.specs.rules.Puts.{is_foreign, differs, is_invalid};
 ghost use Rattle.plain_core.specs.Cataloging.{listed};
 
 use crate::catalog::Catalog;

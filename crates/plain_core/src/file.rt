@@ -1,7 +1,7 @@
 // The file at an index.
 ghost use Rattle.std.specs.Prelude.{◌≡◌, None, map, IfOk};
-ghost use Rattle.doc_model.specs.Files.{file};
-ghost use Rattle.doc_model.specs.Reached.{absent};
+ghost use Rattle.doc_model.specs.rules.Files.{file};
+ghost use Rattle.doc_model.specs.rules.Reached.{absent};
 ghost use Rattle.plain_core.specs.Cataloging.{listed};
 ghost use Rattle.plain_core.specs.Filing.{IsFiled, without_file, file_with_bytes};
 ghost use Rattle.plain_core.specs.Sayings.{seen_manifest};

@@ -1,7 +1,7 @@
 // How long the file at an index is.
 ghost use Rattle.std.specs.Prelude.{◌≡◌, None, map, IfOk};
-ghost use Rattle.doc_model.specs.Files.{file};
-ghost use Rattle.doc_model.specs.Reached.{absent};
+ghost use Rattle.doc_model.specs.rules.Files.{file};
+ghost use Rattle.doc_model.specs.rules.Reached.{absent};
 ghost use Rattle.plain_core.specs.Cataloging.{listed};
 ghost use Rattle.plain_core.specs.Filing.{file_with_bytes};
 ghost use Rattle.plain_core.specs.Measuring.{length_of_file, length_answered};

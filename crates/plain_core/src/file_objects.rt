@@ -1,6 +1,6 @@
 // The objects that a file is made of.
 ghost use Rattle.std.specs.Prelude.{◌≡◌, ◌∷◌, ◌++◌, map, IfOk, OnOk, option_copied, []};
-ghost use Rattle.doc_model.specs.Files.{own_bytes, root_object};
+ghost use Rattle.doc_model.specs.rules.Files.{own_bytes, root_object};
 ghost use Rattle.plain_core.specs.Cataloging.{listed};
 ghost use Rattle.plain_core.specs.Filing.{stored, groups_named, objects_in};
 ghost use Rattle.plain_core.specs.Sayings.{seen_manifest};

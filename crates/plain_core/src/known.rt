@@ -1,6 +1,6 @@
 // Which serials a client knows.
 ghost use Rattle.std.specs.Prelude.{◌≡◌, ℕ, ◌+◌, ◌<◌, ◌≤◌, ◌||◌, ◌&&◌, nat_le, length, vec_len, slice_get, Some, IfOk};
-ghost use Rattle.doc_model.specs.Pulls.{knows};
+ghost use Rattle.doc_model.specs.rules.Pulls.{knows};
 ghost use Rattle.plain_core.specs.Knowing.{TellsEach, TellsRanges, covers};
 
 use compact_values::{Guid, NoMemory, Seq};

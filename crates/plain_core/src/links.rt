@@ -2,7 +2,7 @@
 ghost use Rattle.std.specs.Prelude.{◌≡◌, [], true, IfOk, OnOk, fold, flat_map};
 ghost use Rattle.compact_values.specs.SameIds.{same_id};
 ghost use Rattle.compact_values.specs.IdPlaces.{with_new};
-ghost use Rattle.doc_model.specs.Reached.{blob_of, blobs_of, each_once, enough, groups_by, mapping_of, named_along, named_blobs, named_groups, named_revisions};
+ghost use Rattle.doc_model.specs.rules.Reached.{blob_of, blobs_of, each_once, enough, groups_by, mapping_of, named_along, named_blobs, named_groups, named_revisions};
 ghost use Rattle.plain_core.specs.Cataloging.{listed};
 ghost use Rattle.plain_core.specs.Naming.{groups_in, is_closed, targets_by};
 

@@ -2,8 +2,8 @@
 ghost use Rattle.std.specs.Prelude.{◌≡◌, ◌+◌, ◌<◌, ◌^◌, [], ◌∷◌, ◌++◌, Some, IfOk, OnOk, length, map, fold, flat_map, take, option_map, unwrap_or, option_copied, find, is_some};
 ghost use Rattle.std.specs.List.{list_any};
 ghost use Rattle.compact_values.specs.IdPlaces.{with_new};
-ghost use Rattle.doc_model.specs.Finding.{said, firsts, as_index, as_storage, as_cell, as_group, as_blob};
-ghost use Rattle.doc_model.specs.Reached.{manifest_of, base_of, named_along, enough, named_revisions, name, revision_name, mapping_of, groups_of, blobs_of, blob_of, same_cells, cells_of, current_of, currents_of, storage_name, cell_name, group_name, blob_name, names_below, names};
+ghost use Rattle.doc_model.specs.rules.Finding.{said, firsts, as_index, as_storage, as_cell, as_group, as_blob};
+ghost use Rattle.doc_model.specs.rules.Reached.{manifest_of, base_of, named_along, enough, named_revisions, name, revision_name, mapping_of, groups_of, blobs_of, blob_of, same_cells, cells_of, current_of, currents_of, storage_name, cell_name, group_name, blob_name, names_below, names};
 ghost use Rattle.plain_core.specs.Cataloging.{listed};
 ghost use Rattle.plain_core.specs.Naming.{IsBelow, names_of};
 ghost use Rattle.plain_core.specs.Sayings.{seen_mappings, seen_manifest};

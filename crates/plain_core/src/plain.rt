@@ -66,11 +66,11 @@ pub enum Change {
 }
 
 impl PlainCore {
-    ghost use Rattle.doc_model.specs.Apply.{empty_doc, IsPlanned};
-    ghost use Rattle.doc_model.specs.Drawing.{draw};
-    ghost use Rattle.doc_model.specs.Pulls.{pull};
-    ghost use Rattle.doc_model.specs.Sound.{Sound};
-    ghost use Rattle.doc_model.specs.Turns.{reading};
+    ghost use Rattle.doc_model.specs.rules.Apply.{empty_doc, IsPlanned};
+    ghost use Rattle.doc_model.specs.rules.Drawing.{draw};
+    ghost use Rattle.doc_model.specs.rules.Pulls.{pull};
+    ghost use Rattle.doc_model.specs.rules.Sound.{Sound};
+    ghost use Rattle.doc_model.specs.rules.Turns.{reading};
     ghost use Rattle.plain_core.specs.Keeping.{doc_of, has_places, has_room, joined, leads_to, may_join, planned_of};
 
     /// An empty document.
@@ -217,7 +217,7 @@ impl PlainCore {
 }
 
 impl Core for PlainCore {
-    ghost use Rattle.doc_model.specs.Apply.{apply};
+    ghost use Rattle.doc_model.specs.rules.Apply.{apply};
     ghost use Rattle.plain_core.specs.Keeping.{doc_of, planned_of};
 
     type Fresh = Change;

@@ -1,7 +1,7 @@
 // Planning a step of the table of editors.
 ghost use Rattle.std.specs.Prelude.{◌≡◌, ℕ, ◌+◌, ◌<◌, ◌^◌, IfOk, IfSome};
-ghost use Rattle.doc_model.specs.Apply.{IsPlanned};
-ghost use Rattle.doc_model.specs.Editing.{edit, editor_timeout_of};
+ghost use Rattle.doc_model.specs.rules.Apply.{IsPlanned};
+ghost use Rattle.doc_model.specs.rules.Editing.{edit, editor_timeout_of};
 ghost use Rattle.plain_core.specs.Keeping.{doc_of, planned_of};
 
 use crate::plain::{Change, PlainCore};

@@ -1,8 +1,8 @@
 // Planning a step of the lock.
 ghost use Rattle.std.specs.Prelude.{◌≡◌, ℕ, ◌+◌, ◌<◌, ◌^◌, IfOk, IfSome};
-ghost use Rattle.doc_model.specs.Apply.{IsPlanned};
-ghost use Rattle.doc_model.specs.Locking.{do_lock};
-ghost use Rattle.doc_model.specs.LockSteps.{timeout_of};
+ghost use Rattle.doc_model.specs.rules.Apply.{IsPlanned};
+ghost use Rattle.doc_model.specs.rules.Locking.{do_lock};
+ghost use Rattle.doc_model.specs.rules.LockSteps.{timeout_of};
 ghost use Rattle.plain_core.specs.Keeping.{doc_of, planned_of};
 
 use crate::plain::{Change, PlainCore};

@@ -1,10 +1,10 @@
 // Planning what only reads: the versions, the file, whether a client is alone, and who the caller is.
 ghost use Rattle.std.specs.Prelude.{◌≡◌, true, Some, IfOk};
-ghost use Rattle.doc_model.specs.Apply.{IsPlanned};
-ghost use Rattle.doc_model.specs.Editing.{is_alone};
-ghost use Rattle.doc_model.specs.Files.{file};
-ghost use Rattle.doc_model.specs.Turns.{reading};
-ghost use Rattle.doc_model.specs.Versions.{last_file};
+ghost use Rattle.doc_model.specs.rules.Apply.{IsPlanned};
+ghost use Rattle.doc_model.specs.rules.Editing.{is_alone};
+ghost use Rattle.doc_model.specs.rules.Files.{file};
+ghost use Rattle.doc_model.specs.rules.Turns.{reading};
+ghost use Rattle.doc_model.specs.rules.Versions.{last_file};
 ghost use Rattle.doc_model.specs.declared.reply.Reply.TheVariants.{VersionList, File, Lone, Me};
 ghost use Rattle.plain_core.specs.Keeping.{doc_of, planned_of};
 ghost use Rattle.plain_core.specs.Wholes.{all_whole, is_whole};

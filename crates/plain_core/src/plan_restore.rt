@@ -1,11 +1,11 @@
 // Planning what restores a version.
 ghost use Rattle.std.specs.Prelude.{◌≡◌, ◌<◌, ◌≤◌, ◌^◌, ◌+◌, ◌++◌, [], ◌∷◌, true, IfOk, option_copied};
 ghost use Rattle.std.specs.Option.{MatchOption};
-ghost use Rattle.doc_model.specs.Apply.{IsPlanned};
-ghost use Rattle.doc_model.specs.Drawing.{last_number};
-ghost use Rattle.doc_model.specs.Puts.{too_much_added, too_large};
-ghost use Rattle.doc_model.specs.Turns.{unless, first_refusal};
-ghost use Rattle.doc_model.specs.Versions.{version, restore, restore_refusal, restored, next_id, index_like};
+ghost use Rattle.doc_model.specs.rules.Apply.{IsPlanned};
+ghost use Rattle.doc_model.specs.rules.Drawing.{last_number};
+ghost use Rattle.doc_model.specs.rules.Puts.{too_much_added, too_large};
+ghost use Rattle.doc_model.specs.rules.Turns.{unless, first_refusal};
+ghost use Rattle.doc_model.specs.rules.Versions.{version, restore, restore_refusal, restored, next_id, index_like};
 ghost use Rattle.doc_model.specs.declared.reply.Code.TheVariants as codes;
 ghost use Rattle.plain_core.specs.Cataloging.{listed};
 ghost use Rattle.plain_core.specs.Keeping.{doc_of, leads_to, planned_of};

@@ -1,7 +1,7 @@
 // Pulls: what a client lacks, and what it knows then.
 ghost use Rattle.std.specs.Prelude.{◌≡◌, ◌+◌, ◌≤◌, [], ◌∷◌, ◌++◌, IfOk, map, filter, length};
-ghost use Rattle.doc_model.specs.Reached.{names};
-ghost use Rattle.doc_model.specs.Pulls.{ranges_of, stored_index, named_ids, lacking, known_then, pulled};
+ghost use Rattle.doc_model.specs.rules.Reached.{names};
+ghost use Rattle.doc_model.specs.rules.Pulls.{ranges_of, stored_index, named_ids, lacking, known_then, pulled};
 
 use crate::catalog::Catalog;
 use crate::known::Known;

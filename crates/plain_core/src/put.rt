@@ -1,12 +1,12 @@
 // What an upload meets: the elements that the document has with it, and the first reason to refuse it.
 ghost use Rattle.std.specs.Prelude.{◌≡◌, [], ◌∷◌, ◌++◌, ◌+◌, ◌≤◌, true, not, nat_lt, IfOk, sum_by, length};
 ghost use Rattle.std.specs.List.{list_all, list_any};
-ghost use Rattle.doc_model.specs.Limits.{most_added, most_added_weight, most_parts, most_parts_weight};
-ghost use Rattle.doc_model.specs.Pulls.{ranges_of};
-ghost use Rattle.doc_model.specs.Puts.{grown, has_invalid, is_invalid, too_many_parts, too_much_added, is_expected, is_committed, serials_of};
-ghost use Rattle.doc_model.specs.Sound.{part_weight};
-ghost use Rattle.doc_model.specs.Turns.{first_refusal};
-ghost use Rattle.doc_model.specs.Weights.{weight_of};
+ghost use Rattle.doc_model.specs.rules.Limits.{most_added, most_added_weight, most_parts, most_parts_weight};
+ghost use Rattle.doc_model.specs.rules.Pulls.{ranges_of};
+ghost use Rattle.doc_model.specs.rules.Puts.{grown, has_invalid, is_invalid, too_many_parts, too_much_added, is_expected, is_committed, serials_of};
+ghost use Rattle.doc_model.specs.rules.Sound.{part_weight};
+ghost use Rattle.doc_model.specs.rules.Turns.{first_refusal};
+ghost use Rattle.doc_model.specs.rules.Weights.{weight_of};
 ghost use Rattle.doc_model.specs.declared.reply.Code.TheVariants as codes;
 ghost use Rattle.plain_core.specs.Cataloging.{listed};
 ghost use Rattle.plain_core.specs.Weighing.{is_few, all_few, what_is_left};

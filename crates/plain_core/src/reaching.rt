@@ -1,8 +1,8 @@
 // What is reached from an index.
 ghost use Rattle.std.specs.Prelude.{◌≡◌, ◌+◌, ◌<◌, true, nat_lt, map, IfOk};
 ghost use Rattle.std.specs.Option.{MatchOption};
-ghost use Rattle.doc_model.specs.Limits.{most_reached_weight};
-ghost use Rattle.doc_model.specs.Weights.{weight_of};
+ghost use Rattle.doc_model.specs.rules.Limits.{most_reached_weight};
+ghost use Rattle.doc_model.specs.rules.Weights.{weight_of};
 ghost use Rattle.plain_core.specs.Cataloging.{listed};
 ghost use Rattle.plain_core.specs.Reaching.{among};
 ghost use Rattle.plain_core.specs.Weighing.{all_few};

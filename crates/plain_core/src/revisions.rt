@@ -1,6 +1,6 @@
 // The revisions that an index maps, found by their ids.
 ghost use Rattle.std.specs.Prelude.{◌≡◌, map, IfOk, option_map, option_copied, slice_get};
-ghost use Rattle.doc_model.specs.Reached.{base_of, manifest_of, mapping_of};
+ghost use Rattle.doc_model.specs.rules.Reached.{base_of, manifest_of, mapping_of};
 ghost use Rattle.plain_core.specs.Cataloging.{listed};
 ghost use Rattle.plain_core.specs.Sayings.{seen_manifest};
 

@@ -1,9 +1,9 @@
 // The revisions of the root cell at an index.
 ghost use Rattle.std.specs.Prelude.{◌≡◌, map, IfOk, option_map, option_copied, option_and_then, find};
 ghost use Rattle.compact_values.specs.SameIds.{same_cell};
-ghost use Rattle.doc_model.specs.Files.{current_revision, root_chain};
-ghost use Rattle.doc_model.specs.Finding.{said, as_cell};
-ghost use Rattle.doc_model.specs.Reached.{chain, longest};
+ghost use Rattle.doc_model.specs.rules.Files.{current_revision, root_chain};
+ghost use Rattle.doc_model.specs.rules.Finding.{said, as_cell};
+ghost use Rattle.doc_model.specs.rules.Reached.{chain, longest};
 ghost use Rattle.plain_core.specs.Cataloging.{listed};
 ghost use Rattle.plain_core.specs.Sayings.{seen_mappings, seen_manifest};
 

@@ -1,7 +1,7 @@
 // The serial numbers of what was sent.
 ghost use Rattle.std.specs.Prelude.{◌≡◌, ◌+◌, ◌<◌, ◌≤◌, ◌^◌, ◌++◌, map, filter, IfOk, OnOk, length};
-ghost use Rattle.doc_model.specs.Finding.{numbered_from};
-ghost use Rattle.doc_model.specs.Limits.{most_added};
+ghost use Rattle.doc_model.specs.rules.Finding.{numbered_from};
+ghost use Rattle.doc_model.specs.rules.Limits.{most_added};
 ghost use Rattle.plain_core.specs.Sending.{is_one_of};
 
 use compact_values::{IdIndex, NoMemory, Seq};

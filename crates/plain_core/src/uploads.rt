@@ -1,6 +1,6 @@
 // Uploads that aren't complete.
 ghost use Rattle.std.specs.Prelude.{◌≡◌, ◌<◌, ◌^◌, IfOk};
-ghost use Rattle.doc_model.specs.Puts.{pending, other_parts};
+ghost use Rattle.doc_model.specs.rules.Puts.{pending, other_parts};
 
 use compact_values::{Copied, ExGuid, NoMemory, Seq};
 use doc_model::limits::DAY;

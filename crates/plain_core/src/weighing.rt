@@ -1,9 +1,9 @@
 // What elements weigh, against a limit.
 ghost use Rattle.std.specs.Prelude.{◌≡◌, ◌-◌, nat_lt, true, sum_by, if◌then◌else◌, Some, None};
 ghost use Rattle.std.specs.List.{list_all};
-ghost use Rattle.doc_model.specs.Weights.{weight_of};
+ghost use Rattle.doc_model.specs.rules.Weights.{weight_of};
 ghost use Rattle.plain_core.specs.Weighing.{all_few, what_is_left};
-ghost use Rattle.doc_model.specs.Sound.{part_weight};
+ghost use Rattle.doc_model.specs.rules.Sound.{part_weight};
 
 use doc_model::{Element, Part, weight};
 

@@ -27,7 +27,7 @@ pub struct Document {
 }
 
 impl Model for Document {
-    ghost use Rattle.doc_model.specs.Sound.{Sound};
+    ghost use Rattle.doc_model.specs.rules.Sound.{Sound};
     ghost use Rattle.doc_model.specs.declared.doc.Doc.{Doc};
     ghost use Rattle.plain_core.specs.Keeping.{doc_of};
 
@@ -40,8 +40,8 @@ impl Model for Document {
 
 impl Document {
     ghost use Rattle.std.specs.Prelude.{IfSome};
-    ghost use Rattle.doc_model.specs.Histories.{Fits};
-    ghost use Rattle.doc_model.specs.Sound.{Valid};
+    ghost use Rattle.doc_model.specs.rules.Histories.{Fits};
+    ghost use Rattle.doc_model.specs.rules.Sound.{Valid};
 
     /// A document without anything.
     pub fn new(alloc: Global, guid: Guid) -> Result<Document, NoMemory> {

@@ -49,7 +49,7 @@ pub struct Host {
 
 impl Host {
     ghost use Rattle.std.specs.Prelude.{IfOk};
-    ghost use Rattle.doc_model.specs.Histories.{Fits};
+    ghost use Rattle.doc_model.specs.rules.Histories.{Fits};
 
     /// Two documents without anything, for envelopes by `ann`.
     pub fn new(alloc: Global) -> Result<Host, NoMemory> {

@@ -1,9 +1,9 @@
 -- Each step of a session leaves it safe.
 use Rattle.std.proofs.Common.{◌≡◌, ℕ, ◌<◌, List, length, Option, Some, None, Bool, sym, subst}
 use Rattle.std.specs.Prelude.{IfSome}
-use Rattle.doc_model.specs.Histories.{Fits}
-use Rattle.doc_model.specs.Laws.{KeepsSound}
-use Rattle.doc_model.specs.Sound.{Sound, Valid}
+use Rattle.doc_model.specs.rules.Histories.{Fits}
+use Rattle.doc_model.specs.laws.Documents.{KeepsSound}
+use Rattle.doc_model.specs.rules.Sound.{Sound, Valid}
 use Rattle.doc_model.specs.declared.reply.Submitted.TheVariants.{Answered, DiskFault, JournalFull, NoMemory}
 use Rattle.session_loop.specs.Documents.{Kept, IsSubmitted, IsLone}
 use Rattle.doc_model.specs.declared.call.Call.{Call}

@@ -1,7 +1,7 @@
 -- Documents that are kept in memory alone, and what their calls do with them.
 use Rattle.std.specs.Prelude.{◌≡◌, ℕ, ◌+◌, if◌then◌else◌}
-use Rattle.doc_model.specs.Apply.{apply}
-use Rattle.doc_model.specs.Turns.{Turn}
+use Rattle.doc_model.specs.rules.Apply.{apply}
+use Rattle.doc_model.specs.rules.Turns.{Turn}
 use Rattle.doc_model.specs.declared.call.Call.{Call}
 use Rattle.doc_model.specs.declared.doc.Doc.{Doc}
 use Rattle.doc_model.specs.declared.reply.Submitted.{Submitted}

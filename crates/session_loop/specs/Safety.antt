@@ -1,6 +1,6 @@
 -- What a session asks may be done: its calls are ones that may be made, of documents that there are.
 use Rattle.std.specs.Prelude.{ℕ, ◌<◌, List, length, IfSome}
-use Rattle.doc_model.specs.Sound.{Valid}
+use Rattle.doc_model.specs.rules.Sound.{Valid}
 use Rattle.http_head.specs.declared.target.Route.{Route}
 use Rattle.http_head.specs.declared.target.Route.TheVariants as route
 use Rattle.collection_run.specs.Processes.{IsServable}

@@ -1,6 +1,6 @@
 // Documents that are kept in memory alone.
 ghost use Rattle.std.specs.Prelude.{◌≡◌};
-ghost use Rattle.doc_model.specs.Sound.{Valid};
+ghost use Rattle.doc_model.specs.rules.Sound.{Valid};
 ghost use Rattle.session_loop.specs.Documents.{IsSubmitted, IsLone};
 
 use doc_model::{Call, Core, Submitted};

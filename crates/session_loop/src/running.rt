@@ -1,6 +1,6 @@
 // Envelopes and files, by their calls.
 ghost use Rattle.std.specs.Prelude.{◌≡◌, ◌<◌, ◌≤◌, ◌^◌, ◌+◌, ℕ, List, length, Err, IfOk, OnOk, None, IsTrue};
-ghost use Rattle.doc_model.specs.Histories.{Fits};
+ghost use Rattle.doc_model.specs.rules.Histories.{Fits};
 ghost use Rattle.doc_model.specs.declared.call.Call.{Call};
 ghost use Rattle.http_head.specs.Answers.{has_reason};
 ghost use Rattle.envelope_read.specs.Verdicts.{Reads, verdict};

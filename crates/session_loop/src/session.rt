@@ -1,6 +1,6 @@
 // The session of one connection, without input or output.
 ghost use Rattle.std.specs.Prelude.{◌≡◌, ◌<◌, ◌≤◌, ◌^◌, ℕ, length, drop, IfOk, OnOk, OnErr};
-ghost use Rattle.doc_model.specs.Histories.{Fits};
+ghost use Rattle.doc_model.specs.rules.Histories.{Fits};
 ghost use Rattle.doc_model.specs.declared.call.Call.{Call};
 ghost use Rattle.session_loop.specs.Courses.{told, made, counted, wrote};
 ghost use Rattle.session_loop.specs.Rooms.{most_steps, HasRoom, Falls};

@@ -11,9 +11,9 @@ use Rattle.compact_values.specs.Reading.{number_of}
 use Rattle.compact_values.proofs.LittleEndian.{IsBytes}
 use Rattle.stream_objects.specs.declared.tree.Tree.{Tree}
 use Rattle.stream_objects.proofs.ReadTrees.{and_then_parts, read_stands, stands_is_read}
-use Rattle.doc_model.specs.Fronts.{HasVersions, HasSignature}
-use Rattle.doc_model.specs.Limits.{most_elements}
-use Rattle.doc_model.specs.Requests.{IsRequest}
+use Rattle.doc_model.specs.wire.Fronts.{HasVersions, HasSignature}
+use Rattle.doc_model.specs.rules.Limits.{most_elements}
+use Rattle.doc_model.specs.wire.Requests.{IsRequest}
 use Rattle.doc_model.specs.declared.request.CellRequest.{CellRequest}
 use Rattle.data_elements.specs.declared.wire_fault.WireFault.{WireFault}
 use Rattle.data_elements.specs.declared.wire_fault.WireFault.TheVariants as faults

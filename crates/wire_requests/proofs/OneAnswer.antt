@@ -12,9 +12,9 @@ use Rattle.stream_objects.specs.Trees.{IsTreeAt}
 use Rattle.stream_objects.specs.Parts.{IsFirstBroken}
 use Rattle.stream_objects.proofs.Stops.{one_answer, object_inside}
 use Rattle.stream_objects.proofs.Broken.{Judges, one_broken, none_broken}
-use Rattle.doc_model.specs.Fronts.{HasVersions, HasSignature}
-use Rattle.doc_model.specs.Requests.{SaysRequest, IsRequest}
-use Rattle.doc_model.specs.RequestParts.{InOwnForm, part_start, request_parts}
+use Rattle.doc_model.specs.wire.Fronts.{HasVersions, HasSignature}
+use Rattle.doc_model.specs.wire.Requests.{SaysRequest, IsRequest}
+use Rattle.doc_model.specs.readers.RequestParts.{InOwnForm, part_start, request_parts}
 use Rattle.doc_model.specs.declared.request.CellRequest.{CellRequest}
 use Rattle.data_elements.specs.declared.wire_fault.WireFault.{WireFault}
 use Rattle.data_elements.specs.declared.wire_fault.WireFault.TheVariants as faults

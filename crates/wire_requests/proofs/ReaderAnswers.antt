@@ -4,10 +4,10 @@ use Rattle.compact_values.proofs.LittleEndian.{IsBytes}
 use Rattle.stream_objects.specs.declared.tree.Tree.{Tree}
 use Rattle.stream_objects.specs.Parts.{IsFirstBroken}
 use Rattle.stream_objects.proofs.Broken.{Judges, one_broken, none_broken}
-use Rattle.doc_model.specs.Elements.{IsPackage}
-use Rattle.doc_model.specs.Knowledges.{SaysKnowledge}
-use Rattle.doc_model.specs.ElementParts as elements
-use Rattle.doc_model.specs.KnowledgeParts as knowledges
+use Rattle.doc_model.specs.wire.Elements.{IsPackage}
+use Rattle.doc_model.specs.wire.Knowledges.{SaysKnowledge}
+use Rattle.doc_model.specs.readers.ElementParts as elements
+use Rattle.doc_model.specs.readers.KnowledgeParts as knowledges
 use Rattle.doc_model.specs.declared.element.Element.{Element}
 use Rattle.doc_model.specs.declared.knowledge.Knowledge.{Knowledge}
 use Rattle.data_elements.specs.Answers.{IsPackageAnswer, IsKnowledgeAnswer}

@@ -16,10 +16,10 @@ use Rattle.stream_objects.specs.Gathering.{and_then, gather}
 use Rattle.stream_objects.proofs.Broken.{Judges, all-append, broken_left, broken_right}
 use Rattle.stream_objects.proofs.Children.{single_some, single_none}
 use Rattle.stream_objects.proofs.Standing.{filter_join}
-use Rattle.doc_model.specs.ElementParts as elements
-use Rattle.doc_model.specs.Elements.{IsPackage}
-use Rattle.doc_model.specs.Requests.{IsSub, is_put, puts_in, SaysRequest}
-use Rattle.doc_model.specs.RequestParts.{Part, packed, part_start, sub_row, sub_parts, puts_with, child_parts, request_parts}
+use Rattle.doc_model.specs.readers.ElementParts as elements
+use Rattle.doc_model.specs.wire.Elements.{IsPackage}
+use Rattle.doc_model.specs.wire.Requests.{IsSub, is_put, puts_in, SaysRequest}
+use Rattle.doc_model.specs.readers.RequestParts.{Part, packed, part_start, sub_row, sub_parts, puts_with, child_parts, request_parts}
 use Rattle.doc_model.specs.declared.element.Element.{Element}
 use Rattle.doc_model.specs.declared.request.CellRequest.{CellRequest}
 use Rattle.doc_model.specs.declared.request.WireSub.{WireSub}

@@ -15,16 +15,16 @@ use Rattle.stream_objects.specs.declared.tree.Tree.{Tree}
 use Rattle.stream_objects.specs.declared.tree.Tree.TheViews.{out-Tree}
 use Rattle.stream_objects.proofs.Standing.{At, at_front, at_back, inside_at, Whole, all_stand, leaf, branch, whole_map, objects-one, filter_all, filter_none, filter_two}
 use Rattle.stream_objects.proofs.Unique.{objects-cons}
-use Rattle.doc_model.specs.ElementObjects.{IsNothing}
-use Rattle.doc_model.specs.Elements.{IsElement, IsPackage}
-use Rattle.doc_model.specs.Fronts.{HasVersions, HasSignature}
-use Rattle.doc_model.specs.Walks.{walk}
-use Rattle.doc_model.specs.Requests.{PutFields, AllocateFields, first_knowledge, IsKnown, Holds, IsSub, SaysRequest, IsRequest}
-use Rattle.doc_model.specs.FittingElements.{FitsElement}
-use Rattle.doc_model.specs.FittingRequests.{FitsWhat, FitsSub, objects_in, sub_objects, request_objects, FitsRequest}
-use Rattle.doc_model.specs.Weights.{objects_written}
-use Rattle.doc_model.specs.WrittenElements.{knowledge_bytes}
-use Rattle.doc_model.specs.WrittenRequests.{IsKindOf, query_bytes, put_bytes, allocate_bytes, held_bytes, sub_bytes, sent_bytes, sent_package_bytes, request_front, request_bytes}
+use Rattle.doc_model.specs.wire.ElementObjects.{IsNothing}
+use Rattle.doc_model.specs.wire.Elements.{IsElement, IsPackage}
+use Rattle.doc_model.specs.wire.Fronts.{HasVersions, HasSignature}
+use Rattle.doc_model.specs.wire.Walks.{walk}
+use Rattle.doc_model.specs.wire.Requests.{PutFields, AllocateFields, first_knowledge, IsKnown, Holds, IsSub, SaysRequest, IsRequest}
+use Rattle.doc_model.specs.wire.FittingElements.{FitsElement}
+use Rattle.doc_model.specs.wire.FittingRequests.{FitsWhat, FitsSub, objects_in, sub_objects, request_objects, FitsRequest}
+use Rattle.doc_model.specs.rules.Weights.{objects_written}
+use Rattle.doc_model.specs.wire.WrittenElements.{knowledge_bytes}
+use Rattle.doc_model.specs.wire.WrittenRequests.{IsKindOf, query_bytes, put_bytes, allocate_bytes, held_bytes, sub_bytes, sent_bytes, sent_package_bytes, request_front, request_bytes}
 use Rattle.doc_model.specs.declared.element.Element.{Element}
 use Rattle.doc_model.specs.declared.request.CellRequest.{CellRequest}
 use Rattle.doc_model.specs.declared.request.WireSub.{WireSub}

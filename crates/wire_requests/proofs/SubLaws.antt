@@ -17,11 +17,11 @@ use Rattle.stream_objects.specs.ObjectFields.{single}
 use Rattle.stream_objects.specs.Parts.{IsFirstBroken}
 use Rattle.stream_objects.proofs.Broken.{Judges}
 use Rattle.stream_objects.proofs.Children.{single_some, single_none, simple_gets, simple_again, compound_gets, compound_again, IsBytes-fields}
-use Rattle.doc_model.specs.Knowledges.{SaysKnowledge}
-use Rattle.doc_model.specs.KnowledgeParts as knowledges
-use Rattle.doc_model.specs.ElementParts as elements
-use Rattle.doc_model.specs.Requests.{SubRequestFields, PutFields, AllocateFields, first_knowledge, IsKnown, Holds, IsSub, is_put}
-use Rattle.doc_model.specs.RequestParts.{Part, sub_request, known, put, allocate, packed, HoldsOnce, InOwnForm, part_start, sub_row, known_parts, held_parts, parts_behind, sub_parts}
+use Rattle.doc_model.specs.wire.Knowledges.{SaysKnowledge}
+use Rattle.doc_model.specs.readers.KnowledgeParts as knowledges
+use Rattle.doc_model.specs.readers.ElementParts as elements
+use Rattle.doc_model.specs.wire.Requests.{SubRequestFields, PutFields, AllocateFields, first_knowledge, IsKnown, Holds, IsSub, is_put}
+use Rattle.doc_model.specs.readers.RequestParts.{Part, sub_request, known, put, allocate, packed, HoldsOnce, InOwnForm, part_start, sub_row, known_parts, held_parts, parts_behind, sub_parts}
 use Rattle.doc_model.specs.declared.knowledge.Knowledge.{Knowledge}
 use Rattle.doc_model.specs.declared.knowledge.Range.{Range}
 use Rattle.doc_model.specs.declared.request.WireSub.{WireSub}

@@ -6,7 +6,7 @@ use Rattle.std.proofs.lemmas.Bool.{cases_Bool}
 use Rattle.stream_objects.specs.declared.tree.Tree.{Tree}
 use Rattle.stream_objects.specs.declared.tree.Tree.TheViews.{out-Tree}
 use Rattle.stream_objects.specs.Objects.{is_kind}
-use Rattle.doc_model.specs.Walks.{walk}
+use Rattle.doc_model.specs.wire.Walks.{walk}
 use Rattle.wire_requests.specs.WalkReading.{or_else, first_by, first_of}
 
 find_join : (p : Tree → Bool) (xs ys : List Tree) → find p (xs ++ ys) ≡ or_else (find p xs) (find p ys)

@@ -4,7 +4,7 @@ use Rattle.std.specs.List.{flat_map}
 use Rattle.stream_objects.specs.Trees.{Consecutive, EndsBehind, IsObject}
 use Rattle.stream_objects.specs.declared.tree.Tree.{Tree}
 use Rattle.stream_objects.specs.declared.tree.Tree.TheViews.{out-Tree}
-use Rattle.doc_model.specs.Walks.{walk}
+use Rattle.doc_model.specs.wire.Walks.{walk}
 
 module _ (input : List ℕ) (levels m : ℕ) (same : (t : Tree) (from next : ℕ) → IsObject levels input t from next → walk m t ≡ walk levels t) where
   same_each : (ts : List Tree) (from next : ℕ) → Consecutive (IsObject levels input) ts from next → flat_map (walk m) ts ≡ flat_map (walk levels) ts

@@ -5,16 +5,16 @@ use Rattle.stream_objects.specs.declared.fault.TreeFault.TheVariants as trees
 use Rattle.stream_objects.specs.Trees.{IsTreeAt}
 use Rattle.stream_objects.specs.Answers.{IsFaultAt}
 use Rattle.stream_objects.specs.Parts.{IsFirstBroken}
-use Rattle.doc_model.specs.Fronts.{HasVersions, HasSignature}
-use Rattle.doc_model.specs.Requests.{SaysRequest, IsRequest}
-use Rattle.doc_model.specs.RequestParts.{InOwnForm, part_start, request_parts}
+use Rattle.doc_model.specs.wire.Fronts.{HasVersions, HasSignature}
+use Rattle.doc_model.specs.wire.Requests.{SaysRequest, IsRequest}
+use Rattle.doc_model.specs.readers.RequestParts.{InOwnForm, part_start, request_parts}
 use Rattle.doc_model.specs.declared.element.Element.{Element}
 use Rattle.doc_model.specs.declared.request.CellRequest.{CellRequest}
 use Rattle.data_elements.specs.declared.fault.ElementFault.{ElementFault}
 use Rattle.data_elements.specs.declared.fault.ElementFault.TheVariants as elements
 use Rattle.data_elements.specs.declared.wire_fault.WireFault.{WireFault}
 use Rattle.data_elements.specs.declared.wire_fault.WireFault.TheVariants.{BadFront, BadSignature, TreeFault, Extra, SchemaFault, TooMany, NoMemory}
-use Rattle.doc_model.specs.Limits.{most_elements}
+use Rattle.doc_model.specs.rules.Limits.{most_elements}
 
 -- The front is that of a request, and a tree follows it and nothing more.
 pub record IsFramed (bytes : List ℕ) (tree : Tree) : Type 0 where

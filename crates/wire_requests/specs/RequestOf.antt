@@ -7,7 +7,7 @@ use Rattle.compact_values.specs.Reading.{number_of}
 use Rattle.stream_objects.specs.TreeReading.{object_at, if_whole}
 use Rattle.stream_objects.specs.declared.limits.TheConstants.{MOST_LEVELS}
 use Rattle.stream_objects.specs.declared.tree.Tree.{Tree}
-use Rattle.doc_model.specs.Limits.{most_elements}
+use Rattle.doc_model.specs.rules.Limits.{most_elements}
 use Rattle.doc_model.specs.declared.request.CellRequest.{CellRequest}
 use Rattle.data_elements.specs.declared.wire_fault.WireFault.{WireFault}
 use Rattle.data_elements.specs.declared.wire_fault.WireFault.TheVariants.{NoMemory}

@@ -1,6 +1,6 @@
 // The front of a request: its versions and its signature (MS-FSSHTTPB 2.2.2).
 ghost use Rattle.std.specs.Prelude.{◌≡◌, ◌≤◌, ◌↔◌, length, IsTrue};
-ghost use Rattle.doc_model.specs.Fronts.{HasVersions, HasSignature};
+ghost use Rattle.doc_model.specs.wire.Fronts.{HasVersions, HasSignature};
 
 use compact_values::number_of;
 

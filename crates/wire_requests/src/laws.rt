@@ -4,10 +4,10 @@ ghost use Rattle.std.specs.Prelude.{◌≡◌, ℕ, ◌+◌, ◌<◌, ◌↔◌,
 ghost use Rattle.std.specs.List.{AllByRecursion};
 ghost use Rattle.stream_objects.specs.Trees.{IsTreeAt};
 ghost use Rattle.stream_objects.specs.declared.tree.Tree.{Tree};
-ghost use Rattle.doc_model.specs.Walks.{walk};
-ghost use Rattle.doc_model.specs.Requests.{IsRequest};
-ghost use Rattle.doc_model.specs.FittingRequests.{FitsRequest};
-ghost use Rattle.doc_model.specs.WrittenRequests.{request_bytes};
+ghost use Rattle.doc_model.specs.wire.Walks.{walk};
+ghost use Rattle.doc_model.specs.wire.Requests.{IsRequest};
+ghost use Rattle.doc_model.specs.wire.FittingRequests.{FitsRequest};
+ghost use Rattle.doc_model.specs.wire.WrittenRequests.{request_bytes};
 ghost use Rattle.doc_model.specs.declared.request.CellRequest.{CellRequest};
 ghost use Rattle.wire_requests.specs.RequestOf.{request_of};
 

@@ -1,6 +1,6 @@
 // Reading a request.
 ghost use Rattle.std.specs.Prelude.{◌≡◌, [], option_map};
-ghost use Rattle.doc_model.specs.Fronts.{HasVersions, HasSignature};
+ghost use Rattle.doc_model.specs.wire.Fronts.{HasVersions, HasSignature};
 ghost use Rattle.data_elements.specs.Reading.{package_at};
 ghost use Rattle.wire_requests.specs.RequestAnswers.{IsAnswer, IsOnlyAnswer, GivesElements, GivesRequest};
 ghost use Rattle.wire_requests.specs.RequestOf.{Computes, request_of};

@@ -1,7 +1,7 @@
 // Reading the sub-requests of a request.
 ghost use Rattle.std.specs.Prelude.{◌≡◌, ◌∷◌, []};
 ghost use Rattle.stream_objects.specs.Gathering.{gather};
-ghost use Rattle.doc_model.specs.Requests.{is_put, puts_in};
+ghost use Rattle.doc_model.specs.wire.Requests.{is_put, puts_in};
 ghost use Rattle.wire_requests.specs.RequestAnswers.{Gives, GivesTo};
 ghost use Rattle.wire_requests.specs.RequestReading.{knowledge_of, pull_at, put_fields_at, put_at, allocate_at, draw_at, what_at, sub_at, child_at};
 ghost use Rattle.data_elements.specs.KnowledgeReading.{knowledge_at};

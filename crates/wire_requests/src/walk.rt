@@ -2,7 +2,7 @@
 ghost use Rattle.std.specs.Prelude.{◌≡◌, find};
 ghost use Rattle.std.specs.Option.{option_copied};
 ghost use Rattle.stream_objects.specs.Objects.{is_kind};
-ghost use Rattle.doc_model.specs.Walks.{below};
+ghost use Rattle.doc_model.specs.wire.Walks.{below};
 ghost use Rattle.wire_requests.specs.WalkReading.{first_of, first_among};
 
 use stream_objects::{MOST_LEVELS, Tree};

@@ -3,7 +3,7 @@ ghost use Rattle.std.specs.Prelude.{◌≡◌, ◌++◌, true, OnOk, IfOk};
 ghost use Rattle.std.specs.List.{flat_map};
 ghost use Rattle.compact_values.specs.Compact.{compact};
 ghost use Rattle.stream_objects.specs.Written.{started};
-ghost use Rattle.doc_model.specs.WrittenRequests.{query_bytes, put_bytes, allocate_bytes, held_bytes, sub_bytes, sent_bytes, sent_package_bytes, request_front, request_bytes};
+ghost use Rattle.doc_model.specs.wire.WrittenRequests.{query_bytes, put_bytes, allocate_bytes, held_bytes, sub_bytes, sent_bytes, sent_package_bytes, request_front, request_bytes};
 ghost use Rattle.stream_objects.specs.declared.object_types.TheConstants.{SUB_REQUEST};
 
 use compact_values::{ExGuid, NoMemory, Octets, Serial, write_compact, write_exguid};
@@ -18,7 +18,7 @@ const FRONT: [u8; 12] = [
 ];
 
 // A put.
-#[tactic(auto, unfolding(doc_model::specs::WrittenRequests::put_bytes, stream_objects::specs::Written::started))]
+#[tactic(auto, unfolding(doc_model::specs::wire::WrittenRequests::put_bytes, stream_objects::specs::Written::started))]
 fn write_put(out: &mut Octets, index: &ExGuid, expected: &ExGuid, flags: u8) -> Result<(), NoMemory>
     ensures { OnOk result (out.new ≡ out.old ++ put_bytes index.now expected.now flags) }
 {
@@ -30,7 +30,7 @@ fn write_put(out: &mut Octets, index: &ExGuid, expected: &ExGuid, flags: u8) -> 
 }
 
 // A draw.
-#[tactic(auto, unfolding(doc_model::specs::WrittenRequests::allocate_bytes, stream_objects::specs::Written::started))]
+#[tactic(auto, unfolding(doc_model::specs::wire::WrittenRequests::allocate_bytes, stream_objects::specs::Written::started))]
 fn write_allocate(out: &mut Octets, count: u64) -> Result<(), NoMemory>
     ensures { OnOk result (out.new ≡ out.old ++ allocate_bytes count) }
 {
@@ -46,7 +46,7 @@ fn write_allocate(out: &mut Octets, count: u64) -> Result<(), NoMemory>
 }
 
 // A query.
-#[tactic(auto, unfolding(doc_model::specs::WrittenRequests::query_bytes))]
+#[tactic(auto, unfolding(doc_model::specs::wire::WrittenRequests::query_bytes))]
 fn write_query(out: &mut Octets) -> Result<(), NoMemory>
     ensures { OnOk result (out.new ≡ out.old ++ query_bytes) }
 {
@@ -54,7 +54,7 @@ fn write_query(out: &mut Octets) -> Result<(), NoMemory>
 }
 
 // What a sub-request holds.
-#[tactic(auto, unfolding(doc_model::specs::WrittenRequests::held_bytes))]
+#[tactic(auto, unfolding(doc_model::specs::wire::WrittenRequests::held_bytes))]
 fn write_held(out: &mut Octets, what: &WireKind) -> Result<(), NoMemory>
     ensures { OnOk result (out.new ≡ out.old ++ held_bytes what.now) }
 {
@@ -86,7 +86,7 @@ fn write_head(out: &mut Octets, sub: &WireSub) -> Result<(), NoMemory>
 }
 
 // A sub-request.
-#[tactic(auto, unfolding(doc_model::specs::WrittenRequests::sub_bytes))]
+#[tactic(auto, unfolding(doc_model::specs::wire::WrittenRequests::sub_bytes))]
 fn write_sub(out: &mut Octets, sub: &WireSub) -> Result<(), NoMemory>
     ensures { OnOk result (out.new ≡ out.old ++ sub_bytes sub.now) }
 {
@@ -116,7 +116,7 @@ fn write_elements(out: &mut Octets, elements: &[Element]) -> Result<(), NoMemory
 }
 
 // The package.
-#[tactic(auto, unfolding(doc_model::specs::WrittenRequests::sent_package_bytes))]
+#[tactic(auto, unfolding(doc_model::specs::wire::WrittenRequests::sent_package_bytes))]
 fn write_package(out: &mut Octets, elements: &[Element]) -> Result<(), NoMemory>
     ensures { OnOk result (out.new ≡ out.old ++ sent_package_bytes elements.now) }
 {
@@ -130,7 +130,7 @@ fn write_package(out: &mut Octets, elements: &[Element]) -> Result<(), NoMemory>
 ///
 /// It is read as the same request again where each kind is that of what the sub-request asks for, and the limits are kept:
 /// 64 sub-requests, 4 puts, 8,192 elements and 262,144 objects.
-#[tactic(auto, unfolding(doc_model::specs::WrittenRequests::request_bytes))]
+#[tactic(auto, unfolding(doc_model::specs::wire::WrittenRequests::request_bytes))]
 pub fn write_cell_request(alloc: Global, request: &CellRequest) -> Result<Octets, NoMemory>
     ensures { IfOk result (λ bytes. bytes ≡ request_bytes request.now) }
 {

@@ -13,12 +13,12 @@ use Rattle.compact_values.specs.declared.ids.ExGuid.{ExGuid}
 use Rattle.stream_objects.specs.Objects.{HasFields, One, kind_of}
 use Rattle.stream_objects.specs.Written.{started, simple_object, compound_object}
 use Rattle.stream_objects.proofs.Standing.{At, at_front, at_back, inside_at, Whole, leaf, whole_map}
-use Rattle.doc_model.specs.ElementObjects.{IsNothing}
-use Rattle.doc_model.specs.FittingElements.{FitsRange}
-use Rattle.doc_model.specs.Knowledges.{IsKnowledge}
-use Rattle.doc_model.specs.Responses.{code_number, error_object, success_object, status_byte, reply_objects, sub_response}
-use Rattle.doc_model.specs.SeenResponses.{cell_error, hresult_error, SpellsNumber, ErrorNumber, IsCellError, IsSuccess, IsAccess, QueryAnswer, AllocateAnswer, reply_form, blank, IsSeen}
-use Rattle.doc_model.specs.WrittenElements.{knowledge_bytes}
+use Rattle.doc_model.specs.wire.ElementObjects.{IsNothing}
+use Rattle.doc_model.specs.wire.FittingElements.{FitsRange}
+use Rattle.doc_model.specs.wire.Knowledges.{IsKnowledge}
+use Rattle.doc_model.specs.wire.Responses.{code_number, error_object, success_object, status_byte, reply_objects, sub_response}
+use Rattle.doc_model.specs.wire.SeenResponses.{cell_error, hresult_error, SpellsNumber, ErrorNumber, IsCellError, IsSuccess, IsAccess, QueryAnswer, AllocateAnswer, reply_form, blank, IsSeen}
+use Rattle.doc_model.specs.wire.WrittenElements.{knowledge_bytes}
 use Rattle.doc_model.specs.declared.knowledge.Knowledge.{Knowledge}
 use Rattle.doc_model.specs.declared.reply.Answer.{Answer}
 use Rattle.doc_model.specs.declared.reply.Code.{Code}

@@ -14,8 +14,8 @@ use Rattle.stream_objects.proofs.Broken.{Judges, one_broken, none_broken}
 use Rattle.doc_model.specs.declared.response.CellResponse.{CellResponse}
 use Rattle.data_elements.specs.declared.wire_fault.WireFault.{WireFault}
 use Rattle.data_elements.specs.declared.wire_fault.WireFault.TheVariants as faults
-use Rattle.doc_model.specs.SeenResponses.{HasVersions, HasSignature, IsCellResponse, ReadsAs}
-use Rattle.doc_model.specs.ResponseParts.{InOwnForm, part_start, response_parts}
+use Rattle.doc_model.specs.wire.SeenResponses.{HasVersions, HasSignature, IsCellResponse, ReadsAs}
+use Rattle.doc_model.specs.readers.ResponseParts.{InOwnForm, part_start, response_parts}
 use Rattle.wire_responses.specs.ResponseReading.{response_at}
 use Rattle.wire_responses.specs.ResponseAnswers.{IsAnswer, IsOnlyAnswer, GivesFew}
 use Rattle.wire_responses.proofs.ResponseLaws.{judges_response, again_response}

@@ -20,11 +20,11 @@ use Rattle.stream_objects.specs.ObjectFields.{single}
 use Rattle.stream_objects.specs.Parts.{IsFirstBroken}
 use Rattle.stream_objects.proofs.Broken.{Judges, none_broken, one_broken}
 use Rattle.stream_objects.proofs.Children.{simple_gets, simple_again, IsBytes-fields}
-use Rattle.doc_model.specs.Knowledges.{SaysKnowledge, IsKnowledge}
-use Rattle.doc_model.specs.KnowledgeParts.{guid_row}
-use Rattle.doc_model.specs.KnowledgeParts as knowledges
-use Rattle.doc_model.specs.SeenResponses.{cell_error, hresult_error, SpellsNumber, ErrorNumber, ErrorFields, IsCellError, IsSuccess, IsAccess, QueryAnswer, AllocateAnswer}
-use Rattle.doc_model.specs.ResponseParts.{Part, failure, failure_number, access, success, success_number, query, known, allocate, InOwnForm, part_start, failure_parts, success_parts, access_parts, known_parts}
+use Rattle.doc_model.specs.wire.Knowledges.{SaysKnowledge, IsKnowledge}
+use Rattle.doc_model.specs.readers.KnowledgeParts.{guid_row}
+use Rattle.doc_model.specs.readers.KnowledgeParts as knowledges
+use Rattle.doc_model.specs.wire.SeenResponses.{cell_error, hresult_error, SpellsNumber, ErrorNumber, ErrorFields, IsCellError, IsSuccess, IsAccess, QueryAnswer, AllocateAnswer}
+use Rattle.doc_model.specs.readers.ResponseParts.{Part, failure, failure_number, access, success, success_number, query, known, allocate, InOwnForm, part_start, failure_parts, success_parts, access_parts, known_parts}
 use Rattle.doc_model.specs.declared.knowledge.Knowledge.{Knowledge}
 use Rattle.doc_model.specs.declared.knowledge.Range.{Range}
 use Rattle.data_elements.specs.Answers.{Gives, IsKnowledgeAnswer}

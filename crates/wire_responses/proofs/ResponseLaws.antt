@@ -16,11 +16,11 @@ use Rattle.stream_objects.specs.Gathering.{Gathers, and_then}
 use Rattle.stream_objects.specs.Parts.{IsFirstBroken}
 use Rattle.stream_objects.proofs.Broken.{Judges, all-append, broken_left, broken_right}
 use Rattle.stream_objects.proofs.Children.{single_some, single_none}
-use Rattle.doc_model.specs.ElementParts as elements
-use Rattle.doc_model.specs.NumberedElements.{IsNumberedPackage}
-use Rattle.doc_model.specs.NumberedElements as numbered
-use Rattle.doc_model.specs.SeenResponses.{IsSeen, IsCellResponse}
-use Rattle.doc_model.specs.ResponseParts.{Part, packed, InOwnForm, part_start, sub_parts, child_parts, response_parts}
+use Rattle.doc_model.specs.readers.ElementParts as elements
+use Rattle.doc_model.specs.wire.NumberedElements.{IsNumberedPackage}
+use Rattle.doc_model.specs.readers.NumberedParts as numbered
+use Rattle.doc_model.specs.wire.SeenResponses.{IsSeen, IsCellResponse}
+use Rattle.doc_model.specs.readers.ResponseParts.{Part, packed, InOwnForm, part_start, sub_parts, child_parts, response_parts}
 use Rattle.doc_model.specs.declared.element.NumberedElement.{NumberedElement}
 use Rattle.doc_model.specs.declared.response.CellResponse.{CellResponse}
 use Rattle.doc_model.specs.declared.response.Seen.{Seen}

@@ -13,12 +13,12 @@ use Rattle.stream_objects.specs.Written.{started, compound_object}
 use Rattle.stream_objects.specs.declared.tree.Tree.{Tree}
 use Rattle.stream_objects.specs.declared.tree.Tree.TheViews.{out-Tree}
 use Rattle.stream_objects.proofs.Standing.{At, at_front, at_back, inside_at, Whole, Run, all_stand, branch, filter_all}
-use Rattle.doc_model.specs.FittingElements.{FitsNumbered}
-use Rattle.doc_model.specs.NumberedElements.{IsNumbered, IsNumberedPackage}
-use Rattle.doc_model.specs.Responses.{front, error_object, failure, sub_response, pulled_bytes, pulled_package, response}
-use Rattle.doc_model.specs.SeenResponses.{IsCellError, IsSeen, IsCellResponse, ReadsAs}
-use Rattle.doc_model.specs.Weights.{objects_written}
-use Rattle.doc_model.specs.WrittenElements.{numbered_bytes}
+use Rattle.doc_model.specs.wire.FittingElements.{FitsNumbered}
+use Rattle.doc_model.specs.wire.NumberedElements.{IsNumbered, IsNumberedPackage}
+use Rattle.doc_model.specs.wire.Responses.{front, error_object, failure, sub_response, pulled_bytes, pulled_package, response}
+use Rattle.doc_model.specs.wire.SeenResponses.{IsCellError, IsSeen, IsCellResponse, ReadsAs}
+use Rattle.doc_model.specs.rules.Weights.{objects_written}
+use Rattle.doc_model.specs.wire.WrittenElements.{numbered_bytes}
 use Rattle.doc_model.specs.declared.element.NumberedElement.{NumberedElement}
 use Rattle.doc_model.specs.declared.reply.Answer.{Answer}
 use Rattle.doc_model.specs.declared.reply.Reply.TheVariants as replies

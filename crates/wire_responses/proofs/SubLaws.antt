@@ -13,9 +13,9 @@ use Rattle.stream_objects.specs.Objects.{One, start_of, children_of}
 use Rattle.stream_objects.specs.ObjectFields.{single}
 use Rattle.stream_objects.specs.Gathering.{and_then}
 use Rattle.stream_objects.proofs.Broken.{Judges}
-use Rattle.doc_model.specs.Knowledges.{IsKnowledge}
-use Rattle.doc_model.specs.SeenResponses.{IsCellError, IsAccess, QueryAnswer, AllocateAnswer, SubResponseFields, reply_form, blank, Says, IsSeen}
-use Rattle.doc_model.specs.ResponseParts.{Part, sub_response, query, allocate, HasPlaces, InOwnForm, part_start, failure_parts, access_parts, known_parts, comes_first, reply_parts, sub_row, parts_by, parts_behind, sub_parts}
+use Rattle.doc_model.specs.wire.Knowledges.{IsKnowledge}
+use Rattle.doc_model.specs.wire.SeenResponses.{IsCellError, IsAccess, QueryAnswer, AllocateAnswer, SubResponseFields, reply_form, blank, Says, IsSeen}
+use Rattle.doc_model.specs.readers.ResponseParts.{Part, sub_response, query, allocate, HasPlaces, InOwnForm, part_start, failure_parts, access_parts, known_parts, comes_first, reply_parts, sub_row, parts_by, parts_behind, sub_parts}
 use Rattle.doc_model.specs.declared.knowledge.Knowledge.{Knowledge}
 use Rattle.doc_model.specs.declared.response.ReplyForm.{ReplyForm}
 use Rattle.doc_model.specs.declared.response.ReplyForm.TheVariants.{Failed, Access, Pulled, Stored, Drawn}

@@ -1,6 +1,6 @@
 -- Which answers have a form in a response: those of binary sub-requests.
 use Rattle.std.specs.Prelude.{IsSome}
-use Rattle.doc_model.specs.Responses.{code_number}
+use Rattle.doc_model.specs.wire.Responses.{code_number}
 use Rattle.doc_model.specs.declared.reply.Reply.TheVariants.{Access, Pulled, Stored, Drawn, Refused}
 use Rattle.doc_model.specs.declared.reply.Submitted.{Submitted}
 use Rattle.doc_model.specs.declared.reply.Submitted.TheVariants.{Answered, DiskFault, JournalFull, NoMemory}

@@ -5,14 +5,14 @@ use Rattle.stream_objects.specs.declared.fault.TreeFault.TheVariants as trees
 use Rattle.stream_objects.specs.Trees.{IsTreeAt}
 use Rattle.stream_objects.specs.Answers.{IsFaultAt}
 use Rattle.stream_objects.specs.Parts.{IsFirstBroken}
-use Rattle.doc_model.specs.SeenResponses.{HasVersions, HasSignature, IsCellResponse, ReadsAs}
-use Rattle.doc_model.specs.ResponseParts.{InOwnForm, part_start, response_parts}
+use Rattle.doc_model.specs.wire.SeenResponses.{HasVersions, HasSignature, IsCellResponse, ReadsAs}
+use Rattle.doc_model.specs.readers.ResponseParts.{InOwnForm, part_start, response_parts}
 use Rattle.doc_model.specs.declared.response.CellResponse.{CellResponse}
 use Rattle.data_elements.specs.declared.fault.ElementFault.{ElementFault}
 use Rattle.data_elements.specs.declared.fault.ElementFault.TheVariants as elements
 use Rattle.data_elements.specs.declared.wire_fault.WireFault.{WireFault}
 use Rattle.data_elements.specs.declared.wire_fault.WireFault.TheVariants.{BadFront, BadSignature, TreeFault, Extra, SchemaFault, TooMany, NoMemory}
-use Rattle.doc_model.specs.Limits.{most_elements}
+use Rattle.doc_model.specs.rules.Limits.{most_elements}
 
 -- Each refusal comes where those before it don't.
 abbrev pub IsRefusal : List ℕ → WireFault → Type 0

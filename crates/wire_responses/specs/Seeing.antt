@@ -2,10 +2,10 @@
 use Rattle.std.specs.Prelude.{◌≡◌, ℕ, ◌+◌, ◌^◌, ◌<◌, List, [], map, length, Some, IsSome}
 use Rattle.std.specs.List.{flat_map, sum_by, AllByRecursion}
 use Rattle.compact_values.specs.Ids.{FitsGuid, FitsExGuid}
-use Rattle.doc_model.specs.FittingElements.{FitsNumbered, FitsRange}
-use Rattle.doc_model.specs.Responses.{code_number}
-use Rattle.doc_model.specs.SeenResponses.{blank}
-use Rattle.doc_model.specs.Weights.{objects_written}
+use Rattle.doc_model.specs.wire.FittingElements.{FitsNumbered, FitsRange}
+use Rattle.doc_model.specs.wire.Responses.{code_number}
+use Rattle.doc_model.specs.wire.SeenResponses.{blank}
+use Rattle.doc_model.specs.rules.Weights.{objects_written}
 use Rattle.doc_model.specs.declared.element.NumberedElement.{NumberedElement}
 use Rattle.doc_model.specs.declared.reply.Answer.{Answer}
 use Rattle.doc_model.specs.declared.reply.Reply.TheVariants.{Access, Pulled, Stored, Drawn, Refused}

@@ -1,6 +1,6 @@
 // The front of a response: its versions and its signature (MS-FSSHTTPB 2.2.3).
 ghost use Rattle.std.specs.Prelude.{◌≤◌, ◌↔◌, length, IsTrue};
-ghost use Rattle.doc_model.specs.SeenResponses.{HasVersions, HasSignature};
+ghost use Rattle.doc_model.specs.wire.SeenResponses.{HasVersions, HasSignature};
 
 /// Whether the versions are there, and those of responses.
 pub fn has_versions(bytes: &[u8]) -> bool

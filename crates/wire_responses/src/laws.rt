@@ -2,14 +2,14 @@
 
 ghost use Rattle.std.specs.Prelude.{◌≡◌, ◌<◌, ◌≤◌, ◌^◌, ℕ, List, length, get_or};
 ghost use Rattle.std.specs.List.{AllByRecursion};
-ghost use Rattle.doc_model.specs.Responses.{response, failure};
-ghost use Rattle.doc_model.specs.SeenResponses.{ReadsAs};
+ghost use Rattle.doc_model.specs.wire.Responses.{response, failure};
+ghost use Rattle.doc_model.specs.wire.SeenResponses.{ReadsAs};
 ghost use Rattle.doc_model.specs.declared.reply.Answer.{Answer};
 ghost use Rattle.doc_model.specs.declared.response.CellResponse.{CellResponse};
 ghost use Rattle.data_elements.specs.declared.wire_fault.WireFault.TheVariants.{SchemaFault};
 ghost use Rattle.wire_responses.specs.ResponseAnswers.{IsRefusal};
 ghost use Rattle.wire_responses.specs.Seeing.{FitsAnswer, seen, response_objects};
-ghost use Rattle.doc_model.specs.Limits.{most_elements, most_objects};
+ghost use Rattle.doc_model.specs.rules.Limits.{most_elements, most_objects};
 
 /// Bytes are read as at most one response.
 pub fn one_response()

@@ -1,6 +1,6 @@
 // Reading a response.
 ghost use Rattle.std.specs.Prelude.{◌≡◌};
-ghost use Rattle.doc_model.specs.SeenResponses.{HasVersions, HasSignature};
+ghost use Rattle.doc_model.specs.wire.SeenResponses.{HasVersions, HasSignature};
 ghost use Rattle.wire_responses.specs.ResponseAnswers.{IsAnswer, IsOnlyAnswer, GivesIn, GivesResponse, GivesFew};
 ghost use Rattle.data_elements.specs.Answers.{Gives};
 ghost use Rattle.data_elements.specs.NumberedReading.{numbered_package_at};

@@ -1,8 +1,8 @@
 // Reading a sub-response.
 ghost use Rattle.std.specs.Prelude.{◌≡◌};
 ghost use Rattle.data_elements.specs.Answers.{Gives};
-ghost use Rattle.doc_model.specs.ResponseParts.{comes_first};
-ghost use Rattle.doc_model.specs.SeenResponses.{blank};
+ghost use Rattle.doc_model.specs.readers.ResponseParts.{comes_first};
+ghost use Rattle.doc_model.specs.wire.SeenResponses.{blank};
 ghost use Rattle.wire_responses.specs.ResponseReading.{failed_at, answered_access_at, pulled_at, stored_at, drawn_at, sub_at};
 
 use crate::reply::{check_access, fault, read_allocate, read_failure, read_known, read_query};

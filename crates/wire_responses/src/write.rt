@@ -1,8 +1,8 @@
 // Writing a response (MS-FSSHTTPB 2.2.3).
 ghost use Rattle.std.specs.List.{flat_map};
 ghost use Rattle.std.specs.Prelude.{◌≡◌, ◌++◌, All, IfOk, OnOk};
-ghost use Rattle.doc_model.specs.Responses.{response, failure, sub_response, pulled_bytes, pulled_package};
-ghost use Rattle.doc_model.specs.WrittenElements.{numbered_bytes};
+ghost use Rattle.doc_model.specs.wire.Responses.{response, failure, sub_response, pulled_bytes, pulled_package};
+ghost use Rattle.doc_model.specs.wire.WrittenElements.{numbered_bytes};
 ghost use Rattle.wire_responses.specs.Forms.{HasForm};
 
 use crate::room::with_room;
@@ -19,7 +19,7 @@ const FRONT: [u8; 12] = [
 ];
 
 // An element, with its number of the document's GUID.
-#[tactic(auto, unfolding(doc_model::specs::WrittenElements::numbered_bytes))]
+#[tactic(auto, unfolding(doc_model::specs::wire::WrittenElements::numbered_bytes))]
 fn write_numbered(out: &mut Octets, guid: Guid, numbered: &NumberedElement) -> Result<(), NoMemory>
     ensures { OnOk result (out.new ≡ out.old ++ numbered_bytes guid numbered.now) }
 {
@@ -67,7 +67,7 @@ fn write_all_pulled(out: &mut Octets, answers: &[Answer]) -> Result<(), NoMemory
 }
 
 // The package of the elements of all pulls.
-#[tactic(auto, unfolding(doc_model::specs::Responses::pulled_package))]
+#[tactic(auto, unfolding(doc_model::specs::wire::Responses::pulled_package))]
 fn write_package(out: &mut Octets, answers: &[Answer]) -> Result<(), NoMemory>
     ensures { OnOk result (out.new ≡ out.old ++ pulled_package answers.now) }
 {
@@ -77,7 +77,7 @@ fn write_package(out: &mut Octets, answers: &[Answer]) -> Result<(), NoMemory>
 }
 
 // A sub-response.
-#[tactic(auto, unfolding(doc_model::specs::Responses::sub_response))]
+#[tactic(auto, unfolding(doc_model::specs::wire::Responses::sub_response))]
 fn write_sub_response(alloc: Global, out: &mut Octets, answer: &Answer) -> Result<(), NoMemory>
     ensures { OnOk result (out.new ≡ out.old ++ sub_response answer.now) }
 {
@@ -102,7 +102,7 @@ fn write_sub_responses(alloc: Global, out: &mut Octets, answers: &[Answer]) -> R
 
 /// The response that holds these answers, in order (MS-FSSHTTPB 2.2.3): the elements of all pulls in one package, then a
 /// sub-response for each answer.
-#[tactic(auto, unfolding(doc_model::specs::Responses::response))]
+#[tactic(auto, unfolding(doc_model::specs::wire::Responses::response))]
 pub fn write_cell_response(alloc: Global, answers: &Answers) -> Result<Octets, NoMemory>
     // Each answer has a form in a response.
     requires { All (λ a. HasForm a.submitted) answers.now }
@@ -118,7 +118,7 @@ pub fn write_cell_response(alloc: Global, answers: &Answers) -> Result<Octets, N
 }
 
 /// The response that the whole request failed, with the number of a cell error (MS-FSSHTTPB 2.2.3 and 2.2.3.2).
-#[tactic(auto, unfolding(doc_model::specs::Responses::failure))]
+#[tactic(auto, unfolding(doc_model::specs::wire::Responses::failure))]
 pub fn write_cell_failure(alloc: Global, number: u32) -> Result<Octets, NoMemory>
     ensures { IfOk result (λ bytes. bytes ≡ failure number) }
 {

@@ -4,7 +4,7 @@ ghost use Rattle.std.specs.Prelude.{◌≡◌, ◌≤◌, ◌++◌, [], ◌∷�
 ghost use Rattle.compact_values.specs.Compact.{compact};
 ghost use Rattle.compact_values.specs.GuidBytes.{guid_bytes};
 ghost use Rattle.compact_values.specs.Ids.{exguid};
-ghost use Rattle.doc_model.specs.Responses.{reply_objects, error_object, success_object, status_byte, code_number};
+ghost use Rattle.doc_model.specs.wire.Responses.{reply_objects, error_object, success_object, status_byte, code_number};
 ghost use Rattle.stream_objects.specs.Written.{simple_object, compound_object};
 ghost use Rattle.stream_objects.specs.declared.object_types.TheConstants.{ALLOCATE_EXTENDED_GUID_RANGE_RESPONSE, QUERY_CHANGES_RESPONSE, READ_ACCESS_RESPONSE, WRITE_ACCESS_RESPONSE};
 

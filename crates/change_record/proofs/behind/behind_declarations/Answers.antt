@@ -2,7 +2,7 @@ use Rattle.std.proofs.Common.{ℕ, [], true, List, ◌++◌, None}
 use Rattle.std.specs.List.{flat_map}
 use Rattle.stream_objects.specs.Headers.{written_end}
 use Rattle.stream_objects.specs.Written.{started}
-use Rattle.doc_model.specs.WrittenElements.{declaration_bytes, declarations_bytes}
+use Rattle.doc_model.specs.wire.WrittenElements.{declaration_bytes, declarations_bytes}
 use Rattle.doc_model.specs.declared.element.Object.{Object}
 use Rattle.change_record.proofs.Pieces.{both, not_first, then_both}
 use Rattle.change_record.proofs.behind.behind_declarations.Goals as goal

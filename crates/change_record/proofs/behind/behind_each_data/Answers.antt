@@ -1,5 +1,5 @@
 use Rattle.std.proofs.Common.{refl}
-use Rattle.doc_model.specs.WrittenElements.{data_bytes}
+use Rattle.doc_model.specs.wire.WrittenElements.{data_bytes}
 use Rattle.change_record.proofs.Pieces.{not_this}
 use Rattle.change_record.proofs.behind.behind_each_data.Goals as goal
 

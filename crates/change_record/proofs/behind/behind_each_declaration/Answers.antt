@@ -1,5 +1,5 @@
 use Rattle.std.proofs.Common.{ℕ, List, ◌++◌, ap, ◌∙◌}
-use Rattle.doc_model.specs.WrittenElements.{declaration_bytes}
+use Rattle.doc_model.specs.wire.WrittenElements.{declaration_bytes}
 use Rattle.change_record.proofs.Pieces.{not_this}
 use Rattle.change_record.proofs.behind.behind_each_declaration.Goals as goal
 

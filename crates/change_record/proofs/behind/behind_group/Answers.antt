@@ -1,6 +1,6 @@
 use Rattle.std.proofs.Common.{ℕ, List, ◌++◌, ap, ◌∙◌, sym}
 use Rattle.stream_objects.specs.Headers.{written_end}
-use Rattle.doc_model.specs.WrittenElements.{declarations_bytes, datas_bytes}
+use Rattle.doc_model.specs.wire.WrittenElements.{declarations_bytes, datas_bytes}
 use Rattle.change_record.specs.Behind.{element_head}
 use Rattle.change_record.proofs.Pieces.{not_first, then_both, group_parts}
 use Rattle.change_record.proofs.behind.behind_group.Goals as goal

@@ -1,6 +1,6 @@
 use Rattle.std.proofs.Common.{◌++◌, Some, None}
 use Rattle.stream_objects.specs.Headers.{written_end}
-use Rattle.doc_model.specs.WrittenElements.{declarations_bytes, datas_bytes}
+use Rattle.doc_model.specs.wire.WrittenElements.{declarations_bytes, datas_bytes}
 use Rattle.change_record.proofs.Pieces.{both, not_first, then_both}
 use Rattle.change_record.proofs.behind.behind_objects.Goals as goal
 

@@ -1,5 +1,5 @@
 use Rattle.std.proofs.Common.{◌∙◌, ap}
-use Rattle.doc_model.specs.Locks.{shared_by}
+use Rattle.doc_model.specs.rules.Locks.{shared_by}
 use Rattle.coauth_state.proofs.live_lock.live.Goals as goal
 
 pub returns-in_ok-members-in-Shared : goal.returns-in_ok-members-in-Shared

@@ -1,6 +1,6 @@
 use Rattle.std.proofs.Common.{◌≡◌, ◌∙◌, ap, ◌&&◌, count_by}
-use Rattle.doc_model.specs.Locks.{is_live}
-use Rattle.doc_model.specs.LockSteps.{coauthors_by}
+use Rattle.doc_model.specs.rules.Locks.{is_live}
+use Rattle.doc_model.specs.rules.LockSteps.{coauthors_by}
 use Rattle.coauth_state.proofs.LiveCoauthors.{live_coauthors}
 use Rattle.coauth_state.proofs.live_lock.status.Goals as goal
 

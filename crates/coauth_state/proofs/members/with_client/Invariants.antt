@@ -1,5 +1,5 @@
 use Rattle.std.proofs.Common.{◌≡◌, ◌++◌, cond, drop}
-use Rattle.doc_model.specs.LockSteps.{with_client}
+use Rattle.doc_model.specs.rules.LockSteps.{with_client}
 use Rattle.coauth_state.proofs.members.with_client.Given as goal
 
 -- what is there, and what is still to be done

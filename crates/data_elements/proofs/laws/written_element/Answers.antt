@@ -1,6 +1,6 @@
-use Rattle.doc_model.specs.Elements.{IsElementWith}
-use Rattle.doc_model.specs.Weights.{objects_written}
-use Rattle.doc_model.specs.WrittenElements.{element_bytes}
+use Rattle.doc_model.specs.wire.Elements.{IsElementWith}
+use Rattle.doc_model.specs.rules.Weights.{objects_written}
+use Rattle.doc_model.specs.wire.WrittenElements.{element_bytes}
 use Rattle.data_elements.proofs.ElementStands.{element_stands}
 use Rattle.data_elements.proofs.StandAlone.{at_all, stands_as}
 use Rattle.data_elements.proofs.laws.written_element.Goals as goal

@@ -1,6 +1,6 @@
 use Rattle.std.proofs.Common.{◌+◌, length}
-use Rattle.doc_model.specs.Knowledges.{IsKnowledge}
-use Rattle.doc_model.specs.WrittenElements.{knowledge_bytes}
+use Rattle.doc_model.specs.wire.Knowledges.{IsKnowledge}
+use Rattle.doc_model.specs.wire.WrittenElements.{knowledge_bytes}
 use Rattle.data_elements.proofs.PackageStands.{knowledge_stands}
 use Rattle.data_elements.proofs.StandAlone.{at_all, stands_as}
 use Rattle.data_elements.proofs.laws.written_knowledge.Goals as goal

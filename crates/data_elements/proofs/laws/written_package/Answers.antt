@@ -1,7 +1,7 @@
 use Rattle.std.proofs.Common.{map}
-use Rattle.doc_model.specs.Elements.{IsPackage}
-use Rattle.doc_model.specs.Weights.{package_objects}
-use Rattle.doc_model.specs.WrittenElements.{package_bytes}
+use Rattle.doc_model.specs.wire.Elements.{IsPackage}
+use Rattle.doc_model.specs.rules.Weights.{package_objects}
+use Rattle.doc_model.specs.wire.WrittenElements.{package_bytes}
 use Rattle.data_elements.proofs.PackageStands.{package_stands}
 use Rattle.data_elements.proofs.StandAlone.{at_all, stands_as}
 use Rattle.data_elements.proofs.laws.written_package.Goals as goal

@@ -4,7 +4,7 @@ use Rattle.compact_values.specs.Compact.{compact}
 use Rattle.compact_values.specs.Ids.{guid_spelling}
 use Rattle.compact_values.proofs.Appending.{appended}
 use Rattle.stream_objects.specs.Headers.{written_start}
-use Rattle.doc_model.specs.WrittenElements.{range_bytes}
+use Rattle.doc_model.specs.wire.WrittenElements.{range_bytes}
 use Rattle.data_elements.proofs.Writing.{same_kept, err_same, told, then_is, started_on}
 use Rattle.data_elements.proofs.write.append_range.Goals as goal
 

@@ -1,7 +1,7 @@
 use Rattle.std.proofs.Common.{◌++◌}
 use Rattle.compact_values.specs.Compact.{compact}
 use Rattle.compact_values.specs.Ids.{exguid}
-use Rattle.doc_model.specs.WrittenElements.{size_if_any}
+use Rattle.doc_model.specs.wire.WrittenElements.{size_if_any}
 use Rattle.data_elements.proofs.Writing.{same_kept, err_kept, told, then_is}
 use Rattle.data_elements.proofs.write_group.write_blob_declaration.Goals as goal
 

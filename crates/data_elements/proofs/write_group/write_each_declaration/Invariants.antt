@@ -1,6 +1,6 @@
 use Rattle.std.proofs.Common.{◌≡◌, ◌++◌, take}
 use Rattle.std.specs.List.{flat_map}
-use Rattle.doc_model.specs.WrittenElements.{declaration_bytes}
+use Rattle.doc_model.specs.wire.WrittenElements.{declaration_bytes}
 use Rattle.data_elements.proofs.write_group.write_each_declaration.Given as goal
 
 -- those before this one are written

@@ -1,5 +1,5 @@
 use Rattle.std.proofs.Common.{arith}
-use Rattle.doc_model.specs.ElementRows.{current_revision}
+use Rattle.doc_model.specs.wire.ElementRows.{current_revision}
 use Rattle.doc_model.proofs.SizeBounds.{exact-row, few-current}
 use Rattle.doc_model.proofs.weighing.current_weight.Goals as goal
 

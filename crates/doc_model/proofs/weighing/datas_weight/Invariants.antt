@@ -1,6 +1,6 @@
 use Rattle.std.proofs.Common.{◌≡◌, ◌*◌, ◌≤◌, ◌^◌, length, take}
 use Rattle.std.specs.List.{flat_map}
-use Rattle.doc_model.specs.WrittenElements.{data_bytes}
+use Rattle.doc_model.specs.wire.WrittenElements.{data_bytes}
 use Rattle.doc_model.proofs.weighing.datas_weight.Given as goal
 
 -- what those before this one take

@@ -1,6 +1,6 @@
 use Rattle.std.proofs.Common.{arith}
 use Rattle.std.proofs.lemmas.List.{length-append}
-use Rattle.doc_model.specs.WrittenElements.{declarations_bytes, datas_bytes}
+use Rattle.doc_model.specs.wire.WrittenElements.{declarations_bytes, datas_bytes}
 use Rattle.doc_model.proofs.SizeLemmas.{length_declarations, length_datas}
 use Rattle.doc_model.proofs.weighing.group_weight.Goals as goal
 

@@ -1,7 +1,7 @@
 use Rattle.std.proofs.Common.{arith}
 use Rattle.std.specs.List.{flat_map}
 use Rattle.wire_kinds.specs.Row.{row_bytes}
-use Rattle.doc_model.specs.ElementRows.{manifest_mapping, cell_mapping, revision_mapping}
+use Rattle.doc_model.specs.wire.ElementRows.{manifest_mapping, cell_mapping, revision_mapping}
 use Rattle.doc_model.proofs.SizeLemmas.{length_three}
 use Rattle.doc_model.proofs.SizeBounds.{exact-rows, few-manifest-map, few-cell-map, few-revision-map}
 use Rattle.doc_model.proofs.weighing.index_weight.Goals as goal

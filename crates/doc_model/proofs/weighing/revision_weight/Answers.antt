@@ -1,7 +1,7 @@
 use Rattle.std.proofs.Common.{arith}
 use Rattle.std.specs.List.{flat_map}
 use Rattle.wire_kinds.specs.Row.{row_bytes}
-use Rattle.doc_model.specs.ElementRows.{revision_manifest, revision_root, group_reference}
+use Rattle.doc_model.specs.wire.ElementRows.{revision_manifest, revision_root, group_reference}
 use Rattle.doc_model.proofs.SizeLemmas.{length_three}
 use Rattle.doc_model.proofs.SizeBounds.{exact-row, exact-rows, few-revision, few-revision-root, few-group-reference}
 use Rattle.doc_model.proofs.weighing.revision_weight.Goals as goal

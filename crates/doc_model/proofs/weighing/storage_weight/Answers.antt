@@ -2,7 +2,7 @@ use Rattle.std.proofs.Common.{arith}
 use Rattle.std.specs.List.{flat_map}
 use Rattle.std.proofs.lemmas.List.{length-append}
 use Rattle.wire_kinds.specs.Row.{row_bytes}
-use Rattle.doc_model.specs.ElementRows.{schema_guid, manifest_root}
+use Rattle.doc_model.specs.wire.ElementRows.{schema_guid, manifest_root}
 use Rattle.doc_model.proofs.SizeBounds.{exact-row, exact-rows, few-schema, few-root}
 use Rattle.doc_model.proofs.weighing.storage_weight.Goals as goal
 

@@ -1,8 +1,8 @@
 use Rattle.std.proofs.Common.{◌≡◌, ℕ, ◌+◌, ◌∷◌, ◌++◌, [], length, ap, ◌∙◌, arith}
 use Rattle.compact_values.specs.Compact.{compact}
 use Rattle.compact_values.specs.Ids.{exguid}
-use Rattle.doc_model.specs.Weights.{weight, started_size}
-use Rattle.doc_model.specs.WrittenElements.{element_bytes, body_bytes, kind_number}
+use Rattle.doc_model.specs.rules.Weights.{weight, started_size}
+use Rattle.doc_model.specs.wire.WrittenElements.{element_bytes, body_bytes, kind_number}
 use Rattle.doc_model.specs.declared.element.Element.{Element}
 use Rattle.doc_model.proofs.SizeLemmas.{length_compound, length_three, length_kind}
 use Rattle.doc_model.proofs.weighing.weight.Goals as goal

@@ -1,5 +1,5 @@
 use Rattle.std.proofs.Common.{◌≡◌, ◌++◌}
-use Rattle.doc_model.specs.Editing.{other_editors}
+use Rattle.doc_model.specs.rules.Editing.{other_editors}
 use Rattle.editors_table.proofs.editors.others.Given as goal
 
 -- who is there, and who is still to come

@@ -1,6 +1,6 @@
 use Rattle.std.proofs.Common.{◌≡◌, ◌∙◌, sym, Some, None}
 use Rattle.std.specs.List.{position}
-use Rattle.doc_model.specs.Editing.{is_editor}
+use Rattle.doc_model.specs.rules.Editing.{is_editor}
 use Rattle.editors_table.proofs.Edits.{replaced_at, replaced_nowhere}
 use Rattle.editors_table.proofs.editors.replaced.Goals as goal
 

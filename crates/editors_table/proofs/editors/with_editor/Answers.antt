@@ -1,5 +1,5 @@
 use Rattle.std.proofs.Common.{◌≡◌, ◌∙◌, find, Some, sym}
-use Rattle.doc_model.specs.Editing.{is_editor}
+use Rattle.doc_model.specs.rules.Editing.{is_editor}
 use Rattle.editors_table.proofs.Edits.{joins_found}
 use Rattle.editors_table.proofs.editors.with_editor.Goals as goal
 

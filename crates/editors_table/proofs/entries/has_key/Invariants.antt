@@ -1,6 +1,6 @@
 use Rattle.std.proofs.Common.{◌≡◌, drop}
 use Rattle.std.specs.List.{list_any}
-use Rattle.doc_model.specs.Editing.{is_key}
+use Rattle.doc_model.specs.rules.Editing.{is_key}
 use Rattle.editors_table.proofs.entries.has_key.Given as goal
 
 -- what is still to come decides

@@ -1,5 +1,5 @@
 use Rattle.std.proofs.Common.{◌≡◌, ◌++◌, cond}
-use Rattle.doc_model.specs.Editing.{with_entry}
+use Rattle.doc_model.specs.rules.Editing.{with_entry}
 use Rattle.editors_table.proofs.entries.with_entry.Given as goal
 
 -- what is there, and what is still to come

@@ -1,5 +1,5 @@
 use Rattle.std.proofs.Common.{◌≡◌, ◌++◌}
-use Rattle.doc_model.specs.Editing.{without_key}
+use Rattle.doc_model.specs.rules.Editing.{without_key}
 use Rattle.editors_table.proofs.entries.without_key.Given as goal
 
 -- what is there, and what is still to come

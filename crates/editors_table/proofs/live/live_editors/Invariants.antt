@@ -1,5 +1,5 @@
 use Rattle.std.proofs.Common.{◌≡◌, ◌++◌, drop}
-use Rattle.doc_model.specs.Editing.{live_editors}
+use Rattle.doc_model.specs.rules.Editing.{live_editors}
 use Rattle.editors_table.proofs.live.live_editors.Given as goal
 
 -- who is there, and who is still to come

@@ -1,6 +1,6 @@
 use Rattle.std.proofs.Common.{rules, ◌≡◌, ◌∙◌, find, Some, sym}
 use Rattle.doc_model.specs.declared.editor.Editor.{Editor}
-use Rattle.doc_model.specs.Editing.{edited, is_editor}
+use Rattle.doc_model.specs.rules.Editing.{edited, is_editor}
 use Rattle.editors_table.proofs.Edits.{edited_found}
 use Rattle.editors_table.proofs.steps.refresh.Goals as goal
 

@@ -1,7 +1,7 @@
 use Rattle.std.proofs.Common.{◌≡◌, List, ap, ◌∙◌}
 use Rattle.doc_model.specs.declared.element.Element.{Element}
 use Rattle.doc_model.specs.declared.element.Object.{Object}
-use Rattle.doc_model.specs.Files.{file}
+use Rattle.doc_model.specs.rules.Files.{file}
 use Rattle.file_nodes.specs.Chunks.{id_of, elements_round, chunked}
 use Rattle.file_nodes.proofs.ChunkedFile.{file-chunked}
 use Rattle.file_nodes.proofs.chunking.chunk.Goals as goal

@@ -1,5 +1,5 @@
 use Rattle.std.proofs.Common.{refl, arith}
-use Rattle.doc_model.specs.Pulls.{knows}
+use Rattle.doc_model.specs.rules.Pulls.{knows}
 use Rattle.knowledge_set.proofs.Joins.{more-maximal, one-more}
 use Rattle.knowledge_set.proofs.Placing.{filled-at}
 use Rattle.knowledge_set.proofs.joining.join_few.Goals as goal

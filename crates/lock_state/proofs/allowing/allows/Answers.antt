@@ -1,6 +1,6 @@
 use Rattle.std.proofs.Common.{◌≡◌, ◌∙◌, sym, ap, true, false}
 use Rattle.std.specs.List.{list_any}
-use Rattle.doc_model.specs.Locks.{live, allowed, is_live}
+use Rattle.doc_model.specs.rules.Locks.{live, allowed, is_live}
 use Rattle.lock_state.proofs.AnyLive.{with-live, without-live}
 use Rattle.lock_state.proofs.allowing.allows.Goals as goal
 

@@ -1,7 +1,7 @@
 use Rattle.std.proofs.Common.{◌≡◌, drop}
 use Rattle.std.specs.Prelude.{is_some}
 use Rattle.std.specs.List.{list_all}
-use Rattle.doc_model.specs.Reached.{chain, longest}
+use Rattle.doc_model.specs.rules.Reached.{chain, longest}
 use Rattle.plain_core.specs.Cataloging.{listed}
 use Rattle.plain_core.specs.Chaining.{TellsLengths}
 use Rattle.plain_core.proofs.chains.all_end.Given as goal

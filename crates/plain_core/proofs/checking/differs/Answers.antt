@@ -1,6 +1,6 @@
 use Rattle.std.proofs.Common.{◌∙◌, sym, ap, option_copied}
 use Rattle.std.specs.Prelude.{not}
-use Rattle.doc_model.specs.Puts.{differs}
+use Rattle.doc_model.specs.rules.Puts.{differs}
 use Rattle.doc_model.proofs.SameContents.{told}
 use Rattle.plain_core.proofs.checking.differs.Goals as goal
 

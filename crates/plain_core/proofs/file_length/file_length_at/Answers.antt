@@ -1,5 +1,5 @@
 use Rattle.std.proofs.Common.{◌≡◌, ◌∙◌, sym, ap, List, Option, None, map, option_map}
-use Rattle.doc_model.specs.Finding.{Manifest}
+use Rattle.doc_model.specs.rules.Finding.{Manifest}
 use Rattle.plain_core.specs.Cataloging.{listed}
 use Rattle.plain_core.specs.Filing.{file_with_bytes}
 use Rattle.plain_core.specs.Sayings.{seen_manifest}

@@ -1,5 +1,5 @@
 use Rattle.std.proofs.Common.{◌≡◌, drop, map}
-use Rattle.doc_model.specs.Files.{root_object}
+use Rattle.doc_model.specs.rules.Files.{root_object}
 use Rattle.plain_core.specs.Sayings.{seen_manifest}
 use Rattle.plain_core.proofs.file_objects.root_object.Given as goal
 

@@ -1,5 +1,5 @@
 use Rattle.std.proofs.Common.{◌≡◌, ℕ, List, ◌∙◌, ap, ◌||◌, replicate}
-use Rattle.doc_model.specs.Pulls.{knows}
+use Rattle.doc_model.specs.rules.Pulls.{knows}
 use Rattle.plain_core.specs.Knowing.{covers}
 use Rattle.plain_core.proofs.CoveredSerials.{zeros-cover}
 use Rattle.plain_core.proofs.known.ends_of.Goals as goal

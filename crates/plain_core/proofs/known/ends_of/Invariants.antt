@@ -1,6 +1,6 @@
 use Rattle.std.proofs.Common.{◌≡◌, ℕ, ◌≤◌, ◌||◌, drop}
 use Rattle.std.specs.Prelude.{vec_len}
-use Rattle.doc_model.specs.Pulls.{knows}
+use Rattle.doc_model.specs.rules.Pulls.{knows}
 use Rattle.plain_core.specs.Knowing.{covers}
 use Rattle.plain_core.proofs.known.ends_of.Given as goal
 

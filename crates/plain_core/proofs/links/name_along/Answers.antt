@@ -1,6 +1,6 @@
 use Rattle.std.proofs.Common.{◌≡◌, ℕ, List, subst, sym, ◌∙◌, arith, true}
 use Rattle.compact_values.specs.declared.ids.ExGuid.{ExGuid}
-use Rattle.doc_model.specs.Reached.{named_along, enough}
+use Rattle.doc_model.specs.rules.Reached.{named_along, enough}
 use Rattle.doc_model.proofs.Once.{joining}
 use Rattle.plain_core.specs.Cataloging.{listed}
 use Rattle.plain_core.specs.Naming.{is_known}

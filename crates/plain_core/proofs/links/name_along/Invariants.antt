@@ -1,4 +1,4 @@
-use Rattle.doc_model.specs.Reached.{named_along, enough}
+use Rattle.doc_model.specs.rules.Reached.{named_along, enough}
 use Rattle.doc_model.proofs.Once.{joining}
 use Rattle.plain_core.specs.Cataloging.{listed}
 use Rattle.plain_core.proofs.AlongBases.{Walks}

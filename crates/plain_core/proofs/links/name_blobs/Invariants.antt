@@ -1,5 +1,5 @@
 use Rattle.std.proofs.Common.{◌≡◌, drop, flat_map}
-use Rattle.doc_model.specs.Reached.{blobs_of, named_blobs}
+use Rattle.doc_model.specs.rules.Reached.{blobs_of, named_blobs}
 use Rattle.doc_model.proofs.Once.{joining}
 use Rattle.plain_core.specs.Cataloging.{listed}
 use Rattle.plain_core.proofs.links.name_blobs.Given as goal

@@ -1,5 +1,5 @@
 use Rattle.std.proofs.Common.{◌≡◌, drop, flat_map}
-use Rattle.doc_model.specs.Reached.{blob_of}
+use Rattle.doc_model.specs.rules.Reached.{blob_of}
 use Rattle.doc_model.proofs.Once.{joining}
 use Rattle.plain_core.proofs.links.name_blobs_of.Given as goal
 

@@ -1,5 +1,5 @@
 use Rattle.std.proofs.Common.{◌∙◌, ap, flat_map}
-use Rattle.doc_model.specs.Reached.{each_once}
+use Rattle.doc_model.specs.rules.Reached.{each_once}
 use Rattle.plain_core.specs.Cataloging.{listed}
 use Rattle.plain_core.specs.Naming.{groups_in}
 use Rattle.plain_core.proofs.LinkSteps.{groups-of-targets}

@@ -1,5 +1,5 @@
 use Rattle.std.proofs.Common.{◌≡◌, drop, flat_map, true}
-use Rattle.doc_model.specs.Reached.{named_along, enough, named_revisions}
+use Rattle.doc_model.specs.rules.Reached.{named_along, enough, named_revisions}
 use Rattle.doc_model.proofs.Once.{joining}
 use Rattle.plain_core.specs.Cataloging.{listed}
 use Rattle.plain_core.specs.Naming.{is_closed}

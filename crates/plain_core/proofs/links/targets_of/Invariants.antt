@@ -1,5 +1,5 @@
 use Rattle.std.proofs.Common.{◌≡◌, drop, flat_map}
-use Rattle.doc_model.specs.Reached.{each_once, mapping_of}
+use Rattle.doc_model.specs.rules.Reached.{each_once, mapping_of}
 use Rattle.doc_model.proofs.Once.{joining}
 use Rattle.plain_core.specs.Naming.{targets_by}
 use Rattle.plain_core.proofs.links.targets_of.Given as goal

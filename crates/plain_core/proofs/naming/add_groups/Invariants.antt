@@ -1,5 +1,5 @@
 use Rattle.std.proofs.Common.{◌≡◌, ◌++◌, drop, map}
-use Rattle.doc_model.specs.Reached.{group_name}
+use Rattle.doc_model.specs.rules.Reached.{group_name}
 use Rattle.plain_core.specs.Cataloging.{listed}
 use Rattle.plain_core.proofs.naming.add_groups.Given as goal
 

@@ -1,7 +1,7 @@
 use Rattle.std.proofs.Common.{◌≡◌, drop, fold}
-use Rattle.doc_model.specs.Reached.{same_cells}
+use Rattle.doc_model.specs.rules.Reached.{same_cells}
 use Rattle.compact_values.specs.IdPlaces.{with_new}
-use Rattle.doc_model.specs.Finding.{firsts}
+use Rattle.doc_model.specs.rules.Finding.{firsts}
 use Rattle.plain_core.proofs.naming.cells_of.Given as goal
 
 -- what is there, and what is still to be done

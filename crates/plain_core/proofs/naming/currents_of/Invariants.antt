@@ -1,5 +1,5 @@
 use Rattle.std.proofs.Common.{◌≡◌, ◌++◌, drop, map}
-use Rattle.doc_model.specs.Reached.{current_of}
+use Rattle.doc_model.specs.rules.Reached.{current_of}
 use Rattle.plain_core.specs.Cataloging.{listed}
 use Rattle.plain_core.proofs.naming.currents_of.Given as goal
 

@@ -1,5 +1,5 @@
 use Rattle.std.proofs.Common.{◌≡◌, ◌++◌, drop, map}
-use Rattle.doc_model.specs.Reached.{cell_name}
+use Rattle.doc_model.specs.rules.Reached.{cell_name}
 use Rattle.plain_core.specs.Cataloging.{listed}
 use Rattle.plain_core.proofs.naming.name_cells.Given as goal
 

@@ -1,6 +1,6 @@
 use Rattle.std.proofs.Common.{◌≡◌, ◌+◌, ◌++◌, drop, map, filter}
-use Rattle.doc_model.specs.Finding.{numbered_from}
-use Rattle.doc_model.specs.Pulls.{is_known_then, known_then}
+use Rattle.doc_model.specs.rules.Finding.{numbered_from}
+use Rattle.doc_model.specs.rules.Pulls.{is_known_then, known_then}
 use Rattle.plain_core.proofs.pull.known_then.Given as goal
 
 -- what is there, and what is still to be done

@@ -1,6 +1,6 @@
 use Rattle.std.proofs.Common.{◌≡◌, ◌+◌, ◌++◌, drop, filter}
-use Rattle.doc_model.specs.Finding.{numbered_from}
-use Rattle.doc_model.specs.Pulls.{is_lacking, lacking}
+use Rattle.doc_model.specs.rules.Finding.{numbered_from}
+use Rattle.doc_model.specs.rules.Pulls.{is_lacking, lacking}
 use Rattle.plain_core.proofs.pull.lacking.Given as goal
 
 -- what is there, and what is still to be done

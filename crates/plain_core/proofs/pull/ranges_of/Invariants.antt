@@ -1,5 +1,5 @@
 use Rattle.std.proofs.Common.{◌≡◌, ◌++◌, drop}
-use Rattle.doc_model.specs.Pulls.{ranges_after, ranges_of}
+use Rattle.doc_model.specs.rules.Pulls.{ranges_after, ranges_of}
 use Rattle.plain_core.proofs.pull.ranges_of.Given as goal
 
 -- what is there, and what is still to be done

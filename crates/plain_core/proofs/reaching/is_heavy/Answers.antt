@@ -4,9 +4,9 @@ use Rattle.std.proofs.lemmas.List.Sums.{sum_by-append}
 use Rattle.compact_values.specs.declared.ids.ExGuid.{ExGuid}
 use Rattle.doc_model.specs.declared.element.Element.{Element}
 use Rattle.doc_model.specs.declared.element.Name.{Name}
-use Rattle.doc_model.specs.Limits.{most_reached_weight}
-use Rattle.doc_model.specs.Reached.{is_among, names}
-use Rattle.doc_model.specs.Weights.{weight, weight_of}
+use Rattle.doc_model.specs.rules.Limits.{most_reached_weight}
+use Rattle.doc_model.specs.rules.Reached.{is_among, names}
+use Rattle.doc_model.specs.rules.Weights.{weight, weight_of}
 use Rattle.plain_core.specs.Cataloging.{listed}
 use Rattle.plain_core.specs.Reaching.{among}
 use Rattle.plain_core.proofs.reaching.is_heavy.Goals as goal

@@ -1,5 +1,5 @@
 use Rattle.std.proofs.Common.{◌≡◌, ◌+◌, drop, true}
-use Rattle.doc_model.specs.Weights.{weight_of}
+use Rattle.doc_model.specs.rules.Weights.{weight_of}
 use Rattle.plain_core.specs.Reaching.{among}
 use Rattle.plain_core.specs.Weighing.{all_few}
 use Rattle.plain_core.proofs.reaching.weigh_named.Given as goal

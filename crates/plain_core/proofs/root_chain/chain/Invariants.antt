@@ -1,5 +1,5 @@
 use Rattle.std.proofs.Common.{◌≡◌, ◌++◌, map, option_map}
-use Rattle.doc_model.specs.Reached.{chain, longest}
+use Rattle.doc_model.specs.rules.Reached.{chain, longest}
 use Rattle.plain_core.specs.Cataloging.{listed}
 use Rattle.plain_core.specs.Sayings.{seen_manifest}
 use Rattle.plain_core.proofs.root_chain.chain.Given as goal

@@ -3,8 +3,8 @@ use Rattle.compact_values.specs.SameIds.{same_cell}
 use Rattle.doc_model.specs.declared.element.Element.{Element}
 use Rattle.doc_model.specs.declared.element.ManifestMap.{ManifestMap}
 use Rattle.doc_model.specs.declared.element.Root.{Root}
-use Rattle.doc_model.specs.Files.{current_revision}
-use Rattle.doc_model.specs.Finding.{Mappings, first, said, as_cell, as_storage}
+use Rattle.doc_model.specs.rules.Files.{current_revision}
+use Rattle.doc_model.specs.rules.Finding.{Mappings, first, said, as_cell, as_storage}
 use Rattle.plain_core.specs.Cataloging.{listed}
 use Rattle.plain_core.specs.Sayings.{seen_mappings}
 use Rattle.plain_core.proofs.root_chain.current_revision.Goals as goal

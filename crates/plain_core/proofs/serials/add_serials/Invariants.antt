@@ -1,5 +1,5 @@
 use Rattle.std.proofs.Common.{◌≡◌, ◌+◌, ◌++◌, drop, map, filter}
-use Rattle.doc_model.specs.Finding.{numbered_from}
+use Rattle.doc_model.specs.rules.Finding.{numbered_from}
 use Rattle.plain_core.specs.Sending.{is_one_of}
 use Rattle.plain_core.proofs.serials.add_serials.Given as goal
 

@@ -1,5 +1,5 @@
 use Rattle.std.proofs.Common.{◌+◌, ◌++◌, ◌∙◌, ap, map, filter, length}
-use Rattle.doc_model.specs.Finding.{numbered_from}
+use Rattle.doc_model.specs.rules.Finding.{numbered_from}
 use Rattle.plain_core.specs.Sending.{is_one_of}
 use Rattle.plain_core.proofs.SentSerials.{serials-both}
 use Rattle.plain_core.proofs.serials.serials_in.Goals as goal

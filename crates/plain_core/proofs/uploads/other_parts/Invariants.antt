@@ -1,5 +1,5 @@
 use Rattle.std.proofs.Common.{◌≡◌, ◌++◌, drop, filter}
-use Rattle.doc_model.specs.Puts.{is_kept, other_parts}
+use Rattle.doc_model.specs.rules.Puts.{is_kept, other_parts}
 use Rattle.plain_core.proofs.uploads.other_parts.Given as goal
 
 -- what is kept so far, and of those that are left

@@ -1,6 +1,6 @@
 use Rattle.std.proofs.Common.{◌≡◌, ◌+◌, drop, true}
 use Rattle.std.specs.List.{list_all}
-use Rattle.doc_model.specs.Weights.{weight_of}
+use Rattle.doc_model.specs.rules.Weights.{weight_of}
 use Rattle.plain_core.specs.Weighing.{is_few}
 use Rattle.plain_core.proofs.weighing.weigh.Given as goal
 

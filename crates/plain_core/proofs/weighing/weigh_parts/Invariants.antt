@@ -1,6 +1,6 @@
 use Rattle.std.proofs.Common.{◌≡◌, ◌+◌, drop, true, sum_by}
 use Rattle.std.specs.List.{list_all}
-use Rattle.doc_model.specs.Sound.{part_weight}
+use Rattle.doc_model.specs.rules.Sound.{part_weight}
 use Rattle.plain_core.specs.Weighing.{all_few}
 use Rattle.plain_core.proofs.weighing.weigh_parts.Given as goal
 

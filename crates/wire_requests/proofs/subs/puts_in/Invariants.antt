@@ -1,5 +1,5 @@
 use Rattle.std.proofs.Common.{◌≡◌, ◌+◌, ◌≤◌, drop}
-use Rattle.doc_model.specs.Requests.{puts_in}
+use Rattle.doc_model.specs.wire.Requests.{puts_in}
 use Rattle.wire_requests.proofs.subs.puts_in.Given as goal
 
 abbrev pub invariant-loop-sub : goal.invariant-loop-sub

@@ -3,7 +3,7 @@ use Rattle.std.specs.Prelude.{find}
 use Rattle.std.specs.List.{flat_map}
 use Rattle.stream_objects.specs.Objects.{is_kind}
 use Rattle.stream_objects.specs.declared.tree.Tree.{Tree}
-use Rattle.doc_model.specs.Walks.{walk}
+use Rattle.doc_model.specs.wire.Walks.{walk}
 use Rattle.wire_requests.proofs.WalkFinds.{first_is}
 use Rattle.wire_requests.proofs.walk.first_below.Goals as goal
 

@@ -1,6 +1,6 @@
 use Rattle.std.proofs.Common.{◌≡◌, ◌++◌, take}
 use Rattle.std.specs.List.{flat_map}
-use Rattle.doc_model.specs.WrittenRequests.{sub_bytes}
+use Rattle.doc_model.specs.wire.WrittenRequests.{sub_bytes}
 use Rattle.wire_requests.proofs.write.write_subs.Given as goal
 
 -- those before this one are written

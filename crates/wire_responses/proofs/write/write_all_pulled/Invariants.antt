@@ -1,6 +1,6 @@
 use Rattle.std.proofs.Common.{◌≡◌, ◌++◌, drop}
 use Rattle.std.specs.List.{flat_map}
-use Rattle.doc_model.specs.Responses.{pulled_bytes}
+use Rattle.doc_model.specs.wire.Responses.{pulled_bytes}
 use Rattle.wire_responses.proofs.write.write_all_pulled.Given as goal
 
 abbrev pub invariant-loop-answer : goal.invariant-loop-answer

@@ -1,6 +1,6 @@
 use Rattle.std.proofs.Common.{◌≡◌, ◌++◌, drop}
 use Rattle.std.specs.List.{flat_map}
-use Rattle.doc_model.specs.WrittenElements.{numbered_bytes}
+use Rattle.doc_model.specs.wire.WrittenElements.{numbered_bytes}
 use Rattle.wire_responses.proofs.write.write_elements.Given as goal
 
 abbrev pub invariant-loop-numbered : goal.invariant-loop-numbered

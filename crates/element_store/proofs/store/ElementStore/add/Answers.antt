@@ -1,6 +1,6 @@
 use Rattle.std.proofs.Common.{◌≡◌, None, map, length, sym, ◌∙◌, ap}
 use Rattle.compact_values.specs.IdPlaces.{place_of}
-use Rattle.doc_model.specs.Finding.{find_element}
+use Rattle.doc_model.specs.rules.Finding.{find_element}
 use Rattle.element_store.specs.Kept.{kept_weight, whole_weight}
 use Rattle.element_store.specs.Ordered.{id_at, rank_in}
 use Rattle.element_store.proofs.Joins.{grown-at}

@@ -2,7 +2,7 @@ use Rattle.std.proofs.Common.{◌≡◌, sym, ap, subst, ◌∙◌, ◌<◌, ◌
 use Rattle.std.specs.Prelude.{option_map}
 use Rattle.compact_values.specs.declared.guid.Guid.{Guid}
 use Rattle.cell_journal.specs.Layout.{Image}
-use Rattle.doc_model.specs.Apply.{empty_doc}
+use Rattle.doc_model.specs.rules.Apply.{empty_doc}
 use Rattle.journaled_doc.specs.Eras.{bodies, Keeps}
 use Rattle.journaled_doc.specs.Replays.{AreChanges}
 use Rattle.journaled_doc.proofs.Eras.{found_in}

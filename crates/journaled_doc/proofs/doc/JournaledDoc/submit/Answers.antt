@@ -1,6 +1,6 @@
 use Rattle.std.proofs.Common.{◌++◌, refl, ap, ◌∙◌}
-use Rattle.doc_model.specs.Histories.{History}
-use Rattle.doc_model.specs.HistoryLaws.{gained}
+use Rattle.doc_model.specs.rules.Histories.{History}
+use Rattle.doc_model.specs.laws.Histories.{gained}
 use Rattle.doc_story.specs.Telling.{told}
 use Rattle.doc_story.specs.declared.told.Told.{Told}
 use Rattle.journaled_doc.specs.Docs.{history}

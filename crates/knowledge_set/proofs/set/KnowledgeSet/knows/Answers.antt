@@ -1,6 +1,6 @@
 use Rattle.std.proofs.Common.{◌≡◌, ◌<◌, ◌≤◌, sym, ◌∙◌, ap, length, get_or, arith, true}
 use Rattle.std.proofs.lemmas.Bool.Decides.{nat_tests}
-use Rattle.doc_model.specs.Pulls.{knows}
+use Rattle.doc_model.specs.rules.Pulls.{knows}
 use Rattle.knowledge_set.specs.Joined.{place_in}
 use Rattle.knowledge_set.specs.Maximal.{are_maximal}
 use Rattle.knowledge_set.proofs.Placing.{alone, knows-none, knows-some}

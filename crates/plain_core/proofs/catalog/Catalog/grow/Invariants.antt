@@ -1,6 +1,6 @@
 use Rattle.std.proofs.Common.{◌≡◌, drop, fold}
 use Rattle.compact_values.specs.IdPlaces.{with_new}
-use Rattle.doc_model.specs.Puts.{same_ids}
+use Rattle.doc_model.specs.rules.Puts.{same_ids}
 use Rattle.plain_core.specs.Cataloging.{listed}
 use Rattle.plain_core.proofs.catalog.Catalog.grow.Given as goal
 

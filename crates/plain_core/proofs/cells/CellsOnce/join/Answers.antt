@@ -2,7 +2,7 @@ use Rattle.std.proofs.Common.{◌≡◌, sym, ◌∙◌, ap, cond, Some, true, f
 use Rattle.std.specs.BTreeMap.{get}
 use Rattle.std.specs.List.{list_any}
 use Rattle.std.specs.Ordering.{is_eq}
-use Rattle.doc_model.specs.Reached.{same_cells}
+use Rattle.doc_model.specs.rules.Reached.{same_cells}
 use Rattle.plain_core.specs.Keys.{cell_order}
 use Rattle.plain_core.proofs.KeyedCells.{cell-joins}
 use Rattle.plain_core.proofs.cells.CellsOnce.join.Goals as goal

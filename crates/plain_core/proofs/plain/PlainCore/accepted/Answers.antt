@@ -4,8 +4,8 @@ use Rattle.doc_model.specs.declared.element.Element.{Element}
 use Rattle.doc_model.specs.declared.knowledge.Range.{Range}
 use Rattle.doc_model.specs.declared.reply.Reply.{Reply}
 use Rattle.doc_model.specs.declared.reply.Reply.TheVariants.{Stored}
-use Rattle.doc_model.specs.Pulls.{ranges_of}
-use Rattle.doc_model.specs.Puts.{added_by, serials_of}
+use Rattle.doc_model.specs.rules.Pulls.{ranges_of}
+use Rattle.doc_model.specs.rules.Puts.{added_by, serials_of}
 use Rattle.plain_core.specs.Cataloging.{listed}
 use Rattle.plain_core.specs.Keeping.{doc_of}
 use Rattle.plain_core.specs.Uploading.{elements_of}

@@ -1,5 +1,5 @@
 use Rattle.std.proofs.Common.{◌∙◌, ap}
-use Rattle.doc_model.specs.Puts.{grown}
+use Rattle.doc_model.specs.rules.Puts.{grown}
 use Rattle.plain_core.specs.Uploading.{elements_of}
 use Rattle.plain_core.specs.Weighing.{is_few, all_few}
 use Rattle.plain_core.proofs.Growing.{all-grown}

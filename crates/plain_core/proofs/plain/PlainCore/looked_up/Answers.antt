@@ -1,6 +1,6 @@
 use Rattle.std.proofs.Common.{◌∙◌, sym, ap, List}
 use Rattle.doc_model.specs.declared.doc.Commit.{Commit}
-use Rattle.doc_model.specs.Versions.{version}
+use Rattle.doc_model.specs.rules.Versions.{version}
 use Rattle.plain_core.proofs.Wholes.{version-whole}
 use Rattle.plain_core.proofs.plain.PlainCore.looked_up.Goals as goal
 

@@ -1,5 +1,5 @@
 use Rattle.std.proofs.Common.{◌∙◌, ap}
-use Rattle.doc_model.specs.Puts.{other_parts}
+use Rattle.doc_model.specs.rules.Puts.{other_parts}
 use Rattle.plain_core.specs.Weighing.{few_parts}
 use Rattle.plain_core.proofs.FewObjects.{few-others}
 use Rattle.plain_core.proofs.plain.PlainCore.others.Goals as goal

@@ -1,5 +1,5 @@
 use Rattle.std.proofs.Common.{◌∙◌, ap, cond, None}
-use Rattle.doc_model.specs.Pulls.{pulled}
+use Rattle.doc_model.specs.rules.Pulls.{pulled}
 use Rattle.plain_core.specs.Keeping.{doc_of, leads_to}
 use Rattle.plain_core.proofs.plain.PlainCore.plan_pull.Goals as goal
 

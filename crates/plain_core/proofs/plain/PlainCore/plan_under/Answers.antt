@@ -4,10 +4,10 @@ use Rattle.doc_model.specs.declared.doc.Commit.{Commit}
 use Rattle.doc_model.specs.declared.element.Element.{Element}
 use Rattle.doc_model.specs.declared.reply.Code.{Code}
 use Rattle.doc_model.specs.declared.reply.Code.TheVariants as codes
-use Rattle.doc_model.specs.Apply.{IsPlanned}
-use Rattle.doc_model.specs.Puts.{too_much_added, too_large}
-use Rattle.doc_model.specs.Turns.{unless, first_refusal}
-use Rattle.doc_model.specs.Versions.{added_by_restore, index_like, new_index, restore_refusal, restored}
+use Rattle.doc_model.specs.rules.Apply.{IsPlanned}
+use Rattle.doc_model.specs.rules.Puts.{too_much_added, too_large}
+use Rattle.doc_model.specs.rules.Turns.{unless, first_refusal}
+use Rattle.doc_model.specs.rules.Versions.{added_by_restore, index_like, new_index, restore_refusal, restored}
 use Rattle.plain_core.specs.Cataloging.{listed}
 use Rattle.plain_core.specs.Keeping.{doc_of}
 use Rattle.plain_core.specs.Weighing.{all_few}

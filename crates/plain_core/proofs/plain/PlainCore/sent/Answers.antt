@@ -1,5 +1,5 @@
 use Rattle.std.proofs.Common.{◌++◌, ◌∙◌, ap}
-use Rattle.doc_model.specs.Puts.{pending}
+use Rattle.doc_model.specs.rules.Puts.{pending}
 use Rattle.plain_core.specs.Weighing.{is_few, all_few}
 use Rattle.plain_core.proofs.FewObjects.{all-both, few-pending}
 use Rattle.plain_core.proofs.plain.PlainCore.sent.Goals as goal

@@ -1,6 +1,6 @@
 use Rattle.std.proofs.Common.{subst}
 use Rattle.doc_model.specs.declared.call.Sub.{Sub}
-use Rattle.doc_model.specs.Sound.{IsValidSub}
+use Rattle.doc_model.specs.rules.Sound.{IsValidSub}
 use Rattle.plain_core.proofs.FewObjects.{few-written}
 use Rattle.plain_core.proofs.plain.PlainCoreCore.plan.Goals as goal
 

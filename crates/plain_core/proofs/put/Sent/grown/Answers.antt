@@ -1,7 +1,7 @@
 use Rattle.std.proofs.Common.{sym, ◌∙◌, ap, fold}
 use Rattle.std.proofs.lemmas.List.Sums.{fold-append}
 use Rattle.compact_values.specs.IdPlaces.{with_new}
-use Rattle.doc_model.specs.Puts.{same_ids}
+use Rattle.doc_model.specs.rules.Puts.{same_ids}
 use Rattle.plain_core.specs.Uploading.{elements_of}
 use Rattle.plain_core.proofs.Growing.{grows}
 use Rattle.plain_core.proofs.put.Sent.grown.Goals as goal

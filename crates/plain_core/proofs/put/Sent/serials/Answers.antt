@@ -1,6 +1,6 @@
 use Rattle.std.proofs.Common.{◌≡◌, ◌++◌, ◌∙◌, ap, subst, map, filter, IfOk}
-use Rattle.doc_model.specs.Finding.{numbered_from}
-use Rattle.doc_model.specs.Pulls.{ranges_of}
+use Rattle.doc_model.specs.rules.Finding.{numbered_from}
+use Rattle.doc_model.specs.rules.Pulls.{ranges_of}
 use Rattle.plain_core.specs.Cataloging.{listed}
 use Rattle.plain_core.specs.Sending.{is_one_of}
 use Rattle.plain_core.specs.Uploading.{elements_of}

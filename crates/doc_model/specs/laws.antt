@@ -1,0 +1,4 @@
+pub mod Documents
+pub mod Histories
+pub mod Locks
+pub mod Naming

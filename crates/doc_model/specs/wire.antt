@@ -1,0 +1,15 @@
+pub mod ElementObjects
+pub mod ElementRows
+pub mod Elements
+pub mod FittingElements
+pub mod FittingRequests
+pub mod Fronts
+pub mod Groups
+pub mod Knowledges
+pub mod NumberedElements
+pub mod Requests
+pub mod Responses
+pub mod SeenResponses
+pub mod Walks
+pub mod WrittenElements
+pub mod WrittenRequests
