@@ -7,7 +7,7 @@ use Rattle.std.proofs.lemmas.Bool.{cases_Bool}
 use Rattle.doc_model.specs.rules.Puts.{put, is_part, part_refusal, commit_refusal, part_reasons, commit_reasons, sent, sent_to, added_by, kept, committed}
 use Rattle.doc_model.specs.rules.Drawing.{can_draw, draw}
 use Rattle.doc_model.specs.wire.Responses.{code_number}
-use Rattle.doc_model.specs.rules.Turns.{Turn, first_refusal, unless}
+use Rattle.doc_model.specs.rules.Effects.{Effect, first_refusal, unless}
 use Rattle.doc_model.specs.declared.call.Put.{Put}
 use Rattle.doc_model.specs.declared.doc.Doc.{Doc}
 use Rattle.doc_model.specs.declared.element.Element.{Element}
@@ -18,7 +18,7 @@ use Rattle.doc_model.specs.declared.request.WireSub.{WireSub}
 use Rattle.doc_model.specs.declared.request.WireKind.{WireKind}
 use Rattle.doc_model.specs.declared.request.WireKind.TheVariants as wire
 use Rattle.wire_responses.specs.Forms.{HasForm}
-use Rattle.cell_host.specs.Serving.{anonymous, answer_to, answers_of, asked, put_of, turn, turn_of}
+use Rattle.cell_host.specs.Serving.{anonymous, answer_to, answers_of, asked, put_of, effect, effect_of}
 
 -- the code, if there is one, has a number
 abbrev IsNumbered : Option Code → Type 0
@@ -34,7 +34,7 @@ first_numbered (r ∷ rs) h =
       | inr n ↦ rw n (first_numbered rs h.1)
     ]
 
-unless_form : (refusal : Option Code) (doc : Doc) (done : Turn) → IsNumbered refusal → HasForm (Answered done.reply) → HasForm (Answered (unless refusal doc done).reply)
+unless_form : (refusal : Option Code) (doc : Doc) (done : Effect) → IsNumbered refusal → HasForm (Answered done.reply) → HasForm (Answered (unless refusal doc done).reply)
 unless_form None doc done n h = h
 unless_form (Some code) doc done n h = n
 
@@ -60,7 +60,7 @@ draw_form doc count =
       | inr n ↦ rw n refl
     ]
 
-pub kind_form : (moment : ℕ) (elements : List Element) (doc : Doc) (kind : WireKind) → HasForm (Answered (turn_of moment doc (asked elements kind)).reply)
+pub kind_form : (moment : ℕ) (elements : List Element) (doc : Doc) (kind : WireKind) → HasForm (Answered (effect_of moment doc (asked elements kind)).reply)
 kind_form moment elements doc wire.Access = tt
 kind_form moment elements doc (wire.Pull knowledge) = tt
 kind_form moment elements doc (wire.Put index expected flags) = put_form doc moment anonymous (put_of elements index expected flags)
@@ -70,5 +70,5 @@ kind_form moment elements doc wire.Unknown = refl
 pub answers_form : (moment : ℕ) (elements : List Element) (doc : Doc) (subs : List WireSub) → All (λ (a : Answer). HasForm a.submitted) (answers_of moment elements doc subs)
 answers_form moment elements doc [] = All-nil (λ (a : Answer). HasForm a.submitted)
 answers_form moment elements doc (sub ∷ subs) =
-    All-cons (λ (a : Answer). HasForm a.submitted) (answer_to sub (turn moment elements doc sub)) (answers_of moment elements (turn moment elements doc sub).doc subs)
-    (kind_form moment elements doc sub.what) (answers_form moment elements (turn moment elements doc sub).doc subs)
+    All-cons (λ (a : Answer). HasForm a.submitted) (answer_to sub (effect moment elements doc sub)) (answers_of moment elements (effect moment elements doc sub).doc subs)
+    (kind_form moment elements doc sub.what) (answers_form moment elements (effect moment elements doc sub).doc subs)

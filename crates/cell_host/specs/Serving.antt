@@ -2,7 +2,7 @@
 use Rattle.std.specs.Prelude.{ℕ, ◌/◌, ◌%◌, ◌==◌, Bool, List, [], ◌∷◌, codes, Option, Some, None}
 use Rattle.compact_values.specs.declared.ids.ExGuid.{ExGuid}
 use Rattle.doc_model.specs.rules.Apply.{apply}
-use Rattle.doc_model.specs.rules.Turns.{Turn, refused}
+use Rattle.doc_model.specs.rules.Effects.{Effect, refused}
 use Rattle.doc_model.specs.declared.call.Call.{Call}
 use Rattle.doc_model.specs.declared.call.Put.{Put}
 use Rattle.doc_model.specs.declared.call.Sub.{Sub}
@@ -50,19 +50,19 @@ abbrev pub call_of : ℕ → Sub → Call
 call_of moment sub = record { moment = moment; user = anonymous; sub = sub }
 
 -- What becomes of the document. Where nothing is asked that is known, no call is made and it is refused as not supported.
-abbrev pub turn_of : ℕ → Doc → Option Sub → Turn
-turn_of moment doc (Some sub) = apply doc (call_of moment sub)
-turn_of moment doc None = refused doc NotSupported
+abbrev pub effect_of : ℕ → Doc → Option Sub → Effect
+effect_of moment doc (Some sub) = apply doc (call_of moment sub)
+effect_of moment doc None = refused doc NotSupported
 
-abbrev pub turn : ℕ → List Element → Doc → WireSub → Turn
-turn moment elements doc sub = turn_of moment doc (asked elements sub.what)
+abbrev pub effect : ℕ → List Element → Doc → WireSub → Effect
+effect moment elements doc sub = effect_of moment doc (asked elements sub.what)
 
 -- the answer to a sub-request, under its id and its kind
-abbrev pub answer_to : WireSub → Turn → Answer
+abbrev pub answer_to : WireSub → Effect → Answer
 answer_to sub t = record { id = sub.id; kind = sub.kind; submitted = Answered t.reply }
 
 -- the answers in order, each on the document that the one before it left
 abbrev pub answers_of : ℕ → List Element → Doc → List WireSub → List Answer
 answers_of moment elements doc [] = []
 answers_of moment elements doc (sub ∷ subs) =
-    answer_to sub (turn moment elements doc sub) ∷ answers_of moment elements (turn moment elements doc sub).doc subs
+    answer_to sub (effect moment elements doc sub) ∷ answers_of moment elements (effect moment elements doc sub).doc subs

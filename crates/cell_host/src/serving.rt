@@ -4,7 +4,7 @@ ghost use Rattle.doc_model.specs.rules.Apply.{apply};
 ghost use Rattle.doc_model.specs.rules.Limits.{most_elements, most_objects};
 ghost use Rattle.doc_model.specs.rules.Sound.{IsValidSub, Valid};
 ghost use Rattle.doc_model.specs.rules.Weights.{objects_written};
-ghost use Rattle.cell_host.specs.Serving.{anonymous, answer_to, answers_of, asked, call_of, has_flag, put_of, turn, turn_of};
+ghost use Rattle.cell_host.specs.Serving.{anonymous, answer_to, answers_of, asked, call_of, has_flag, put_of, effect, effect_of};
 
 use compact_values::{Copied, ExGuid, NoMemory, Seq, Text};
 use doc_model::{
@@ -91,8 +91,8 @@ fn run_asked<C: Core>(
 ) -> Result<Reply, NoMemory>
     requires below { moment < 2 ^ 40 }
     requires valid { IfSome asked IsValidSub }
-    ensures reply { IfOk result (λ reply. reply ≡ (turn_of moment (C.doc core.old) asked).reply) }
-    ensures doc { IfOk result (λ reply. C.doc core.new ≡ (turn_of moment (C.doc core.old) asked).doc) }
+    ensures reply { IfOk result (λ reply. reply ≡ (effect_of moment (C.doc core.old) asked).reply) }
+    ensures doc { IfOk result (λ reply. C.doc core.new ≡ (effect_of moment (C.doc core.old) asked).doc) }
 {
     match asked {
         Some(sub) => ask(alloc, core, moment, sub),
@@ -113,8 +113,8 @@ fn run_sub<C: Core>(
     requires below { moment < 2 ^ 40 }
     requires few { length elements.now ≤ most_elements }
     requires light { All (λ e. objects_written e ≤ most_objects) elements.now }
-    ensures answer { IfOk result (λ answer. answer ≡ answer_to sub.now (turn moment elements.now (C.doc core.old) sub.now)) }
-    ensures doc { IfOk result (λ answer. C.doc core.new ≡ (turn moment elements.now (C.doc core.old) sub.now).doc) }
+    ensures answer { IfOk result (λ answer. answer ≡ answer_to sub.now (effect moment elements.now (C.doc core.old) sub.now)) }
+    ensures doc { IfOk result (λ answer. C.doc core.new ≡ (effect moment elements.now (C.doc core.old) sub.now).doc) }
 {
     let asked = asked(alloc, elements, &sub.what)?;
     let reply = run_asked(alloc, core, moment, asked)?;

@@ -1,6 +1,6 @@
 ghost use Rattle.std.specs.Prelude.{◌≡◌};
 ghost use Rattle.doc_model.specs.rules.LockSteps.{becomes, stays, refuses, leaves};
-ghost use Rattle.coauth_state.specs.Turning.{IsTurn};
+ghost use Rattle.coauth_state.specs.PlannedEffects.{IsEffect};
 
 use doc_model::{Code, LockRecord};
 
@@ -16,7 +16,7 @@ pub struct LockPlan {
 impl LockPlan {
     /// The lock becomes another.
     pub fn change(old: LockRecord, after: LockRecord) -> LockPlan
-        ensures { IsTurn old (becomes after) result }
+        ensures { IsEffect old (becomes after) result }
     {
         drop(old);
         LockPlan {
@@ -28,7 +28,7 @@ impl LockPlan {
 
     /// The lock stays.
     pub fn stay(lock: LockRecord) -> LockPlan
-        ensures { IsTurn lock stays result }
+        ensures { IsEffect lock stays result }
     {
         LockPlan {
             moved: false,
@@ -39,7 +39,7 @@ impl LockPlan {
 
     /// The step is refused.
     pub fn refuse(lock: LockRecord, code: Code) -> LockPlan
-        ensures { IsTurn lock (refuses code) result }
+        ensures { IsEffect lock (refuses code) result }
     {
         LockPlan {
             moved: false,
@@ -50,7 +50,7 @@ impl LockPlan {
 
     /// The client leaves, and is refused.
     pub fn leave(old: LockRecord, after: LockRecord) -> LockPlan
-        ensures { IsTurn old (leaves after) result }
+        ensures { IsEffect old (leaves after) result }
     {
         drop(old);
         LockPlan {

@@ -1,7 +1,7 @@
 ghost use Rattle.std.specs.Prelude.{◌≡◌, ℕ, ◌+◌, ◌<◌, ◌^◌, IfOk, IfSome, IsTrue};
 ghost use Rattle.doc_model.specs.rules.Locks.{live};
-ghost use Rattle.doc_model.specs.rules.LockSteps.{is_shared_step, lock_turn, timeout_of};
-ghost use Rattle.coauth_state.specs.Turning.{IsTurn};
+ghost use Rattle.doc_model.specs.rules.LockSteps.{is_shared_step, lock_effect, timeout_of};
+ghost use Rattle.coauth_state.specs.PlannedEffects.{IsEffect};
 
 use crate::live_lock::live;
 use crate::plan::LockPlan;
@@ -35,7 +35,7 @@ pub fn shared(
 ) -> Result<LockPlan, NoMemory>
     requires shared { IsTrue (is_shared_step step.now) }
     requires sums { IfSome (timeout_of step.now) (λ t. moment + t < 2 ^ 64) }
-    ensures { IfOk result (λ plan. IsTurn (live lock.now moment) (lock_turn moment step.now (live lock.now moment)) plan) }
+    ensures { IfOk result (λ plan. IsEffect (live lock.now moment) (lock_effect moment step.now (live lock.now moment)) plan) }
 {
     let lock = live(alloc, lock, moment)?;
     match *step {

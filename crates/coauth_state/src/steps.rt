@@ -2,7 +2,7 @@ ghost use Rattle.std.specs.Prelude.{◌≡◌, false, IfOk};
 ghost use Rattle.doc_model.specs.declared.lock.LockRecord.TheVariants.{Shared};
 ghost use Rattle.doc_model.specs.rules.Locks.{shared_by};
 ghost use Rattle.doc_model.specs.rules.LockSteps.{becomes, stays, on_shared, on_member, others, with_client, take_shared, to_exclusive};
-ghost use Rattle.coauth_state.specs.Turning.{IsTurn};
+ghost use Rattle.coauth_state.specs.PlannedEffects.{IsEffect};
 
 use crate::live_lock::shared_by;
 use crate::members::{count_others, members, one_member, others, with_client};
@@ -22,7 +22,7 @@ pub fn take_shared(
     until: u64,
     coauthor: bool,
 ) -> Result<LockPlan, NoMemory>
-    ensures { IfOk result (λ plan. IsTurn lock (take_shared schema client until coauthor lock) plan) }
+    ensures { IfOk result (λ plan. IsEffect lock (take_shared schema client until coauthor lock) plan) }
 {
     match shared_standing(&lock, schema) {
         Standing::Free => {
@@ -48,7 +48,7 @@ pub fn drop_shared(
     schema: Guid,
     client: Guid,
 ) -> Result<LockPlan, NoMemory>
-    ensures { IfOk result (λ plan. IsTurn lock (on_member schema client lock (λ all. becomes (shared_by schema (others client all)))) plan) }
+    ensures { IfOk result (λ plan. IsEffect lock (on_member schema client lock (λ all. becomes (shared_by schema (others client all)))) plan) }
 {
     match member_standing(&lock, schema, client) {
         Standing::Free => Ok(LockPlan::refuse(lock, Code::NotLocked)),
@@ -68,7 +68,7 @@ pub fn refresh_shared(
     client: Guid,
     until: u64,
 ) -> Result<LockPlan, NoMemory>
-    ensures { IfOk result (λ plan. IsTurn lock (on_member schema client lock (λ all. becomes (Shared schema (with_client client until false all)))) plan) }
+    ensures { IfOk result (λ plan. IsEffect lock (on_member schema client lock (λ all. becomes (Shared schema (with_client client until false all)))) plan) }
 {
     match member_standing(&lock, schema, client) {
         Standing::Free => Ok(LockPlan::refuse(lock, Code::NotLocked)),
@@ -90,7 +90,7 @@ pub fn to_exclusive(
     until: u64,
     release: bool,
 ) -> Result<LockPlan, NoMemory>
-    ensures { IfOk result (λ plan. IsTurn lock (to_exclusive schema client id until release lock) plan) }
+    ensures { IfOk result (λ plan. IsEffect lock (to_exclusive schema client id until release lock) plan) }
 {
     match member_standing(&lock, schema, client) {
         Standing::Free => Ok(LockPlan::refuse(lock, Code::NotLocked)),
@@ -110,7 +110,7 @@ pub fn to_exclusive(
 
 /// Whether the lock can be taken under this schema lock id.
 pub fn check_shared(lock: LockRecord, schema: Guid) -> LockPlan
-    ensures { IsTurn lock (on_shared schema lock stays (λ _. stays)) result }
+    ensures { IsEffect lock (on_shared schema lock stays (λ _. stays)) result }
 {
     match shared_standing(&lock, schema) {
         Standing::Free => LockPlan::stay(lock),
@@ -121,7 +121,7 @@ pub fn check_shared(lock: LockRecord, schema: Guid) -> LockPlan
 
 /// Whether the client shares the lock.
 pub fn check_member(lock: LockRecord, schema: Guid, client: Guid) -> LockPlan
-    ensures { IsTurn lock (on_member schema client lock (λ _. stays)) result }
+    ensures { IsEffect lock (on_member schema client lock (λ _. stays)) result }
 {
     match member_standing(&lock, schema, client) {
         Standing::Free => LockPlan::refuse(lock, Code::NotLocked),

@@ -33,7 +33,7 @@ use Rattle.collection_run.specs.Asking.{answer_to, word_of}
 use Rattle.collection_run.specs.Collections.{Caller, doc_of, run_sub, cell_from, before, subs_from, asks_from}
 use Rattle.collection_run.specs.Processes.{Process, Asks, after}
 use Rattle.collection_run.specs.Progress.{GoesOnInCell, whole, IsNextInWhole, doc_at, cell_with, caller_of, finish, closed, in_cell, in_ask, at_asks, process_of, with_cell, IsAt, IsInCell, subs_behind, IsProgress, IsNextInAsk, IsNextAt, IsNext}
-use Rattle.collection_run.specs.Turning.{IsPlain, BeginsAs, asks_left, subs_left, turns_at, turns_left, Closes, Turns, Settles}
+use Rattle.collection_run.specs.Proceeding.{IsPlain, BeginsAs, asks_left, subs_left, turns_at, turns_left, Closes, Proceeds, Settles}
 use Rattle.collection_run.proofs.Cells.{cell_asks, cell_after}
 use Rattle.collection_run.proofs.Forms.{fits_form}
 
@@ -183,7 +183,7 @@ subs_of-next asks n ask rest e = ap (λ (m : ℕ). subs_of (take m asks)) (one_n
     one_next n = omega arith
 
 moves_on : (p : Progress) (ask : Ask) → IsProgress p → drop p.request p.collection.requests ≡ ask ∷ rest_of p → p.cell ≡ None → p.call ≡ None → drop p.sub ask.subs ≡ [] → length ask.subs ≤ p.sub
-    → Turns p (moving p) None
+    → Proceeds p (moving p) None
 moves_on p ask progress ask_here none no_call empty over = record {
   same =
       fresh p (rest_of p) none
@@ -206,7 +206,7 @@ moves_on p ask progress ask_here none no_call empty over = record {
 -- with what was found of the next Request
 pub moves_with : (p : Progress) (ask : Ask) (doc : Option ℕ) (earlier : List Before) → IsProgress p → drop p.request p.collection.requests ≡ ask ∷ rest_of p → p.cell ≡ None → p.call ≡ None
     → drop p.sub ask.subs ≡ [] → length ask.subs ≤ p.sub → doc ≡ doc_at p.names (rest_of p) → earlier ≡ take 0 p.earlier
-    → Turns p (record p { request = p.request + 1; doc = doc; sub = 0; earlier = earlier }) None
+    → Proceeds p (record p { request = p.request + 1; doc = doc; sub = 0; earlier = earlier }) None
 moves_with p ask doc earlier progress ask_here none no_call empty over doc_is earlier_is = rw (doc_is, earlier_is) (moves_on p ask progress ask_here none no_call empty over)
 
 -- ---- a subrequest begins
@@ -217,7 +217,7 @@ left_here p ask sub cell here is = ap (turns_at p) here.ask_here ∙ ap (λ (c :
 
 -- it ends at once
 pub ends_at_once : (p q : Progress) (ask : Ask) (sub : SubAsk) (outcome : Outcome) → IsAt p ask sub → p.cell ≡ None
-    → BeginsAs (caller_of p) (doc_of p.names ask.url) (decide sub.depend p.earlier) sub.what (Ended outcome) → Closes p ask sub outcome q → Turns p q None
+    → BeginsAs (caller_of p) (doc_of p.names ask.url) (decide sub.depend p.earlier) sub.what (Ended outcome) → Closes p ask sub outcome q → Proceeds p q None
 ends_at_once p q ask sub outcome here none begins closes = record {
   same = closes.goes_on ∙ sym (process_here p ask sub here none ∙ begins (behind p ask sub));
   progress = closes.progress;
@@ -235,7 +235,7 @@ abbrev pub calling : Progress → Call → Progress
 calling p call = record p { call = Some call }
 
 pub calls_at_once : (p : Progress) (ask : Ask) (sub : SubAsk) (doc : ℕ) (call : Call) → IsProgress p → IsAt p ask sub → p.cell ≡ None
-    → IsPlain (caller_of p) (doc_of p.names ask.url) (decide sub.depend p.earlier) sub.what doc call → Turns p (calling p call) (Some doc)
+    → IsPlain (caller_of p) (doc_of p.names ask.url) (decide sub.depend p.earlier) sub.what doc call → Proceeds p (calling p call) (Some doc)
 calls_at_once p ask sub doc call progress here none plain =
     let there : IsAt (calling p call) ask sub = record { ask_here = here.ask_here; sub_here = here.sub_here } in record {
       same = process_here (calling p call) ask sub there none ∙ sym (process_here p ask sub here none);
@@ -263,7 +263,7 @@ no_forms : (l : List Answer) → l ≡ [] → All (λ (a : Answer). HasForm a.su
 no_forms l e = subst (λ (x : List Answer). All (λ (a : Answer). HasForm a.submitted) x) (sym e) (All-nil (λ (a : Answer). HasForm a.submitted))
 
 pub opens : (p : Progress) (ask : Ask) (sub : SubAsk) (cell : CellWork) → IsProgress p → IsAt p ask sub → p.cell ≡ None → p.call ≡ None
-    → BeginsAs (caller_of p) (doc_of p.names ask.url) (decide sub.depend p.earlier) sub.what (Opens cell) → Turns p (with_cell (Some cell) p) None
+    → BeginsAs (caller_of p) (doc_of p.names ask.url) (decide sub.depend p.earlier) sub.what (Opens cell) → Proceeds p (with_cell (Some cell) p) None
 opens p ask sub cell progress here none no_call begins =
     let q : Progress = with_cell (Some cell) p in
     let there : IsAt q ask sub = record { ask_here = here.ask_here; sub_here = here.sub_here } in record {
@@ -286,7 +286,7 @@ answered cell now = record cell { answers = now }
 -- a call of the Cell goes out
 pub cell_calls : (p : Progress) (cell now : CellWork) (call : Call) → IsProgress (with_cell (Some cell) p) → p.call ≡ None
     → GoesOnInCell (caller_of p) cell.carried cell.request cell.answers now.answers (Some call) → whole (Some call) now ≡ answered cell now.answers
-    → All (λ (a : Answer). HasForm a.submitted) now.answers → Turns (with_cell (Some cell) p) (calling (with_cell (Some now) p) call) (Some now.doc)
+    → All (λ (a : Answer). HasForm a.submitted) now.answers → Proceeds (with_cell (Some cell) p) (calling (with_cell (Some now) p) call) (Some now.doc)
 cell_calls p cell now call progress no_call goes same forms =
     let at : IsInCell (with_cell (Some cell) p) cell = progress.cell in
     let q : Progress = calling (with_cell (Some now) p) call in
@@ -318,7 +318,7 @@ cell_calls p cell now call progress no_call goes same forms =
 -- the Cell ends
 pub cell_ends : (p q : Progress) (cell : CellWork) (now : List Answer) (ask : Ask) (sub : SubAsk) → IsAt p ask sub → p.call ≡ None
     → GoesOnInCell (caller_of p) cell.carried cell.request cell.answers now None → Closes p ask sub (Cell (response now) (word_of now)) q
-    → Turns (with_cell (Some cell) p) q None
+    → Proceeds (with_cell (Some cell) p) q None
 cell_ends p q cell now ask sub here no_call goes closes =
     let there : IsAt (with_cell (Some cell) p) ask sub = record { ask_here = here.ask_here; sub_here = here.sub_here } in
     let go_on : List Answer → Process = λ answers. behind p ask sub (Cell (response answers) (word_of answers)) in record {

@@ -9,7 +9,7 @@ use Rattle.doc_model.specs.rules.Histories.{Fits}
 use Rattle.doc_model.specs.rules.Puts.{put, is_part, part_refusal, commit_refusal, part_reasons, commit_reasons, sent, sent_to, added_by, kept, committed}
 use Rattle.doc_model.specs.rules.Drawing.{can_draw, draw}
 use Rattle.doc_model.specs.wire.Responses.{code_number}
-use Rattle.doc_model.specs.rules.Turns.{Turn, first_refusal, unless}
+use Rattle.doc_model.specs.rules.Effects.{Effect, first_refusal, unless}
 use Rattle.doc_model.specs.declared.call.Put.{Put}
 use Rattle.doc_model.specs.declared.call.Sub.{Sub}
 use Rattle.doc_model.specs.declared.doc.Doc.{Doc}
@@ -38,7 +38,7 @@ first_numbered (r ∷ rs) h =
       | inr n ↦ rw n (first_numbered rs h.1)
     ]
 
-unless_form : (refusal : Option Code) (doc : Doc) (done : Turn) → IsNumbered refusal → HasForm (Answered done.reply) → HasForm (Answered (unless refusal doc done).reply)
+unless_form : (refusal : Option Code) (doc : Doc) (done : Effect) → IsNumbered refusal → HasForm (Answered done.reply) → HasForm (Answered (unless refusal doc done).reply)
 unless_form None doc done n h = h
 unless_form (Some code) doc done n h = n
 

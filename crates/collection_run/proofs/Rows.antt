@@ -12,7 +12,7 @@ use Rattle.doc_model.specs.declared.doc.Doc.{Doc}
 use Rattle.doc_model.specs.declared.editor.EditorStep.TheVariants as editor
 use Rattle.doc_model.specs.declared.lock.LockStep.{LockStep}
 use Rattle.doc_model.specs.declared.lock.LockStep.TheVariants as lock
-use Rattle.doc_model.specs.rules.Turns.{Turn}
+use Rattle.doc_model.specs.rules.Effects.{Effect}
 use Rattle.doc_model.specs.declared.reply.Reply.TheVariants.{Me}
 use Rattle.doc_model.specs.declared.reply.Submitted.TheVariants.{Answered}
 use Rattle.doc_model.specs.declared.request.CellRequest.{CellRequest}
@@ -198,7 +198,7 @@ office bytes =
     ∷ record { token = codes "2"; depend = On (codes "1") words.OnSuccess; what = asking.Cell bytes true (Some (id 1)) }
     ∷ []
 
-abbrev joined : Turn
+abbrev joined : Effect
 joined = apply (empty_doc guid) (call_of (at_moment 0) join)
 
 abbrev office_by : (List Outcome → Process) → Option CellRequest → List ℕ

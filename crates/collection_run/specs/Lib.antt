@@ -4,5 +4,5 @@ pub mod Opening
 pub mod Asking
 pub mod Collections
 pub mod Progress
-pub mod Turning
+pub mod Proceeding
 pub mod Serving

@@ -27,9 +27,9 @@ Asks (says text) doc call = ⊥
 Asks (calls d c go_on) doc call = (d ≡ doc) × (c ≡ call)
 
 -- nothing is asked any more, and this is the text
-abbrev pub Answers : Process → List ℕ → Type 0
-Answers (says said) text = text ≡ said
-Answers (calls doc call go_on) text = ⊥
+abbrev pub Says : Process → List ℕ → Type 0
+Says (says said) text = text ≡ said
+Says (calls doc call go_on) text = ⊥
 
 -- with these exchanges, and no others, it comes to this
 abbrev pub Goes : Process → List Exchange → Process → Type 0

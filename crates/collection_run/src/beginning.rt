@@ -3,7 +3,7 @@ ghost use Rattle.std.specs.Prelude.{◌≡◌, IfOk, Some};
 ghost use Rattle.envelope_read.specs.declared.collection.What.TheVariants as asking;
 ghost use Rattle.dependency_runner.specs.declared.deciding.Decision.TheVariants as decisions;
 ghost use Rattle.collection_run.specs.Collections.{Caller};
-ghost use Rattle.collection_run.specs.Turning.{BeginsAs};
+ghost use Rattle.collection_run.specs.Proceeding.{BeginsAs};
 
 use crate::cell::CellWork;
 use crate::copying::copied_sub;

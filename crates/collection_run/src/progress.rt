@@ -6,7 +6,7 @@ ghost use Rattle.envelope_read.specs.declared.collection.Ask.{Ask};
 ghost use Rattle.envelope_read.specs.declared.collection.SubAsk.{SubAsk};
 ghost use Rattle.envelope_write.specs.AnswerText.{envelope_text};
 ghost use Rattle.collection_run.specs.Progress.{IsAt, IsProgress, IsNext, doc_at, with_cell};
-ghost use Rattle.collection_run.specs.Turning.{Closes, Turns, Advances, Settles};
+ghost use Rattle.collection_run.specs.Proceeding.{Closes, Proceeds, Advances, Settles};
 
 use crate::beginning::{Begun, begin};
 use crate::cell::{CellWork, cell_outcome, next_in_cell, take_back};
@@ -68,13 +68,13 @@ fn close(p: &mut Progress, outcome: Outcome) -> Result<(), NoMemory>
     Ok(())
 }
 
-// A turn in a Cell.
+// A proceed in a Cell.
 #[tactic(auto, using(crate::proofs::Closing::still_progress))]
-fn turn_in_cell(p: &mut Progress, cell: CellWork) -> Result<Option<usize>, NoMemory>
+fn proceed_in_cell(p: &mut Progress, cell: CellWork) -> Result<Option<usize>, NoMemory>
     requires progress { IsProgress (with_cell (Some cell) p.old) }
     requires cell { p.old.cell ≡ None }
     requires call { p.old.call ≡ None }
-    ensures turns { IfOk result (Turns (with_cell (Some cell) p.old) p.new) }
+    ensures proceeds { IfOk result (Proceeds (with_cell (Some cell) p.old) p.new) }
     ensures safe { IsProgress p.new }
     ensures quiet { OnErr result (p.new.call ≡ None) }
 {
@@ -95,14 +95,14 @@ fn turn_in_cell(p: &mut Progress, cell: CellWork) -> Result<Option<usize>, NoMem
     }
 }
 
-// A turn between subrequests.
+// A proceed between subrequests.
 #[tactic(auto, using(crate::proofs::Closing::still_progress))]
-fn turn_in_ask(p: &mut Progress) -> Result<Option<usize>, NoMemory>
+fn proceed_in_ask(p: &mut Progress) -> Result<Option<usize>, NoMemory>
     requires progress { IsProgress p.old }
     requires more { p.old.request < length p.old.collection.requests }
     requires cell { p.old.cell ≡ None }
     requires call { p.old.call ≡ None }
-    ensures turns { IfOk result (Turns p.old p.new) }
+    ensures proceeds { IfOk result (Proceeds p.old p.new) }
     ensures safe { IsProgress p.new }
     ensures quiet { OnErr result (p.new.call ≡ None) }
 {
@@ -134,17 +134,17 @@ fn turn_in_ask(p: &mut Progress) -> Result<Option<usize>, NoMemory>
 }
 
 #[tactic(auto, using(crate::proofs::Closing::still_progress))]
-fn turn(p: &mut Progress) -> Result<Option<usize>, NoMemory>
+fn proceed(p: &mut Progress) -> Result<Option<usize>, NoMemory>
     requires progress { IsProgress p.old }
     requires more { p.old.request < length p.old.collection.requests }
     requires call { p.old.call ≡ None }
-    ensures turns { IfOk result (Turns p.old p.new) }
+    ensures proceeds { IfOk result (Proceeds p.old p.new) }
     ensures safe { IsProgress p.new }
     ensures quiet { OnErr result (p.new.call ≡ None) }
 {
     match p.cell.take() {
-        Some(cell) => turn_in_cell(p, cell),
-        None => turn_in_ask(p),
+        Some(cell) => proceed_in_cell(p, cell),
+        None => proceed_in_ask(p),
     }
 }
 
@@ -157,7 +157,7 @@ pub(crate) fn advance(p: &mut Progress) -> Result<Option<usize>, NoMemory>
     ensures quiet { OnErr result (p.new.call ≡ None) }
 {
     'going: while p.request < p.collection.requests.len() {
-        if let Some(doc) = turn(p)? {
+        if let Some(doc) = proceed(p)? {
             return Ok(Some(doc));
         }
     }

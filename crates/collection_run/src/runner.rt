@@ -5,7 +5,7 @@ ghost use Rattle.doc_model.specs.declared.call.Call.{Call};
 ghost use Rattle.collection_run.specs.Collections.{process};
 ghost use Rattle.collection_run.specs.Processes.{after, says};
 ghost use Rattle.collection_run.specs.Progress.{process_of};
-ghost use Rattle.collection_run.specs.Turning.{AdvanceEnds, IsDone};
+ghost use Rattle.collection_run.specs.Proceeding.{AdvanceEnds, IsDone};
 
 use crate::progress::{Progress, advance, doc_at, settle, text_of};
 use compact_values::{Copied, Names, NoMemory, Octets, Seq, Text};

@@ -17,7 +17,7 @@ use Rattle.stream_objects.specs.Gathering.{and_then}
 use Rattle.stream_objects.proofs.Broken.{Judges, all-append, broken_left, broken_right}
 use Rattle.doc_model.specs.wire.ElementObjects.{ElementFields}
 use Rattle.doc_model.specs.wire.Elements.{SaysBody}
-use Rattle.doc_model.specs.readers.ElementParts.{Part, element, child, member, has_place, members_in, child_parts, ChildInForm, MemberInForm, KindInForm, InOwnForm, part_start}
+use Rattle.doc_model.specs.readers.ElementSites.{Site, element, child, member, has_place, members_in, child_sites, ChildInForm, MemberInForm, KindInForm, InOwnForm, site_start}
 use Rattle.doc_model.specs.declared.element.Body.{Body}
 use Rattle.data_elements.specs.Rows.{child_ok, member_ok}
 use Rattle.data_elements.specs.Checking.{or_then, check_members, child_fault, check_at, unless_broken, or_broken, collect_from, only}
@@ -44,24 +44,24 @@ filter_all {P} test Holds (p ∷ ps) h =
     ]
 
 module _ (input : List ℕ) (fits : IsBytes input) where
-  abbrev pub Own : Part → Type 0
+  abbrev pub Own : Site → Type 0
   Own = InOwnForm input
 
   -- ---- the first fault
 
   -- the fault is the first part that isn't in its form, and without a fault all are in form
-  abbrev pub Tells : List Part → Option ℕ → Type 0
-  Tells ps (Some place) = IsFirstBroken Own part_start ps place
+  abbrev pub Tells : List Site → Option ℕ → Type 0
+  Tells ps (Some place) = IsFirstBroken Own site_start ps place
   Tells ps None = AllByRecursion Own ps
 
-  then_tells : (p : Part) (ps : List Part) → Own p → (o : Option ℕ) → Tells ps o → Tells (p ∷ ps) o
+  then_tells : (p : Site) (ps : List Site) → Own p → (o : Option ℕ) → Tells ps o → Tells (p ∷ ps) o
   then_tells p ps own (Some place) h = inr (own, h)
   then_tells p ps own None h = (own, h)
 
-  joined : (ps qs : List Part) (o n : Option ℕ) → Tells ps o → Tells qs n → Tells (ps ++ qs) (or_then o n)
-  joined ps qs (Some place) n h k = broken_left Own part_start ps qs place h
-  joined ps qs None (Some place) h k = broken_right Own part_start ps qs place h k
-  joined ps qs None None h k = all-append Own part_start ps qs h k
+  joined : (ps qs : List Site) (o n : Option ℕ) → Tells ps o → Tells qs n → Tells (ps ++ qs) (or_then o n)
+  joined ps qs (Some place) n h k = broken_left Own site_start ps qs place h
+  joined ps qs None (Some place) h k = broken_right Own site_start ps qs place h k
+  joined ps qs None None h k = all-append Own site_start ps qs h k
 
   members_tell : (ts : List Tree) → Tells (map member ts) (check_members input ts)
   members_tell [] = tt
@@ -71,7 +71,7 @@ module _ (input : List ℕ) (fits : IsBytes input) where
         | inr n ↦ rw n (inl (λ own. let good = member_complete input fits t own in absurd cc, refl))
       ]
 
-  abbrev held : ℕ → Tree → List Part
+  abbrev held : ℕ → Tree → List Site
   held kind c = if kind == 5 then map member (members_in c) else []
 
   child_tells : (kind : ℕ) (c : Tree) → Tells (child c ∷ held kind c) (child_fault input kind c)
@@ -86,11 +86,11 @@ module _ (input : List ℕ) (fits : IsBytes input) where
         | inr n ↦ rw n (inl (λ own. let good = child_complete input fits c own in absurd cc, refl))
       ]
 
-  pub checked : (kind : ℕ) (cs : List Tree) → Tells (flat_map (child_parts kind) cs) (check_at input kind cs)
+  pub checked : (kind : ℕ) (cs : List Tree) → Tells (flat_map (child_sites kind) cs) (check_at input kind cs)
   checked kind [] = tt
   checked kind (c ∷ cs) =
       elim (cases_Bool (has_place kind c)) [
-        | inl y ↦ rw y (joined (child c ∷ held kind c) (flat_map (child_parts kind) cs) (child_fault input kind c) (check_at input kind cs) (child_tells kind c) (checked kind cs))
+        | inl y ↦ rw y (joined (child c ∷ held kind c) (flat_map (child_sites kind) cs) (child_fault input kind c) (check_at input kind cs) (child_tells kind c) (checked kind cs))
         | inr n ↦ rw n (checked kind cs)
       ]
 
@@ -100,14 +100,14 @@ module _ (input : List ℕ) (fits : IsBytes input) where
   abbrev pub Placed : ℕ → Tree → Type 0
   Placed kind c = has_place kind c ≡ true → ChildInForm input c
 
-  parts_are : (kind : ℕ) (c : Tree) → has_place kind c ≡ true → child_parts kind c ≡ child c ∷ held kind c
+  parts_are : (kind : ℕ) (c : Tree) → has_place kind c ≡ true → child_sites kind c ≡ child c ∷ held kind c
   parts_are kind c y = rw y refl
 
-  pub placed : (kind : ℕ) (cs : List Tree) → AllByRecursion Own (flat_map (child_parts kind) cs) → AllByRecursion (Placed kind) cs
+  pub placed : (kind : ℕ) (cs : List Tree) → AllByRecursion Own (flat_map (child_sites kind) cs) → AllByRecursion (Placed kind) cs
   placed kind [] h = tt
   placed kind (c ∷ cs) h = (
-    λ y. let first : AllByRecursion Own (child c ∷ held kind c) = subst (λ (l : List Part). AllByRecursion Own l) (parts_are kind c y) (all_left Own (child_parts kind c) (flat_map (child_parts kind) cs) h) in first.0,
-    placed kind cs (all_right Own (child_parts kind c) (flat_map (child_parts kind) cs) h),
+    λ y. let first : AllByRecursion Own (child c ∷ held kind c) = subst (λ (l : List Site). AllByRecursion Own l) (parts_are kind c y) (all_left Own (child_sites kind c) (flat_map (child_sites kind) cs) h) in first.0,
+    placed kind cs (all_right Own (child_sites kind c) (flat_map (child_sites kind) cs) h),
   )
 
   members_all : (ts : List Tree) → AllByRecursion Own (map member ts) → AllByRecursion (MemberInForm input) ts
@@ -118,12 +118,12 @@ module _ (input : List ℕ) (fits : IsBytes input) where
   abbrev pub Holds : Tree → Type 0
   Holds c = has_place 5 c ≡ true → ChildInForm input c × AllByRecursion (MemberInForm input) (members_in c)
 
-  pub holds : (cs : List Tree) → AllByRecursion Own (flat_map (child_parts 5) cs) → AllByRecursion Holds cs
+  pub holds : (cs : List Tree) → AllByRecursion Own (flat_map (child_sites 5) cs) → AllByRecursion Holds cs
   holds [] h = tt
   holds (c ∷ cs) h = (
-    λ y. let first : AllByRecursion Own (child c ∷ map member (members_in c)) = subst (λ (l : List Part). AllByRecursion Own l) (parts_are 5 c y) (all_left Own (child_parts 5 c) (flat_map (child_parts 5) cs) h) in
+    λ y. let first : AllByRecursion Own (child c ∷ map member (members_in c)) = subst (λ (l : List Site). AllByRecursion Own l) (parts_are 5 c y) (all_left Own (child_sites 5 c) (flat_map (child_sites 5) cs) h) in
         (first.0, members_all (members_in c) first.1),
-    holds cs (all_right Own (child_parts 5 c) (flat_map (child_parts 5) cs) h),
+    holds cs (all_right Own (child_sites 5 c) (flat_map (child_sites 5) cs) h),
   )
 
   -- the objects of a type
@@ -182,7 +182,7 @@ module _ (input : List ℕ) (fits : IsBytes input) where
   -- ---- the element for itself
 
   abbrev pub JudgesBody : Tree → ℕ → Result Body ℕ → Type 0
-  JudgesBody t kind = Judges Own part_start (SaysBody input t kind) (element t ∷ flat_map (child_parts kind) (out-Tree t).children)
+  JudgesBody t kind = Judges Own site_start (SaysBody input t kind) (element t ∷ flat_map (child_sites kind) (out-Tree t).children)
 
   one_kind : (t : Tree) (i j : ExGuid) (s r : Serial) (m n : ℕ) → ElementFields input t i s m → ElementFields input t j r n → m ≡ n
   one_kind t i j s r m n g h =
@@ -194,10 +194,10 @@ module _ (input : List ℕ) (fits : IsBytes input) where
   module _ (t : Tree) (id : ExGuid) (serial : Serial) (kind : ℕ) (has : ElementFields input t id serial kind) where
     -- it is in form: its children decide
     pub by_children : KindInForm input kind t → (next : Result Body ℕ)
-        → (AllByRecursion Own (flat_map (child_parts kind) (out-Tree t).children) → (body : Body) × (next ≡ Ok body) × SaysBody input t kind body)
+        → (AllByRecursion Own (flat_map (child_sites kind) (out-Tree t).children) → (body : Body) × (next ≡ Ok body) × SaysBody input t kind body)
         → JudgesBody t kind (unless_broken (check_at input kind (out-Tree t).children) next)
     by_children form next read = go (check_at input kind (out-Tree t).children) (checked kind (out-Tree t).children) where
-      go : (o : Option ℕ) → Tells (flat_map (child_parts kind) (out-Tree t).children) o → JudgesBody t kind (unless_broken o next)
+      go : (o : Option ℕ) → Tells (flat_map (child_sites kind) (out-Tree t).children) o → JudgesBody t kind (unless_broken o next)
       go (Some place) h = inr ((id, serial, kind, has, form), h)
       go None h = let b = read h in subst (JudgesBody t kind) (sym b.1) (b.2, ((id, serial, kind, has, form), h))
 

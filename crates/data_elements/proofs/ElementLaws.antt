@@ -20,7 +20,7 @@ use Rattle.doc_model.specs.readers.ElementCodes.{manifest_code, cell_code, revis
 use Rattle.doc_model.specs.wire.ElementRows.{manifest_mapping, cell_mapping, revision_mapping, schema_guid, manifest_root, current_revision, revision_manifest, revision_root, group_reference}
 use Rattle.doc_model.specs.wire.ElementObjects.{ElementFields, PackageFields, BlobContent}
 use Rattle.doc_model.specs.wire.Elements.{SaysBody, IsElement, IsPackage}
-use Rattle.doc_model.specs.readers.ElementParts.{Part, element, has_place, parts_behind, element_row, element_parts, package_parts, KindInForm, InOwnForm, part_start}
+use Rattle.doc_model.specs.readers.ElementSites.{Site, element, has_place, sites_behind, element_row, element_sites, package_sites, KindInForm, InOwnForm, site_start}
 use Rattle.doc_model.specs.declared.element.Element.{Element}
 use Rattle.doc_model.specs.declared.element.Body.{Body}
 use Rattle.doc_model.specs.declared.element.Body.TheVariants.{Index, Storage, Cell, Revision, Group, Blob}
@@ -32,7 +32,7 @@ use Rattle.data_elements.proofs.CheckLaws.{placed, collected, again_collect, aga
 use Rattle.data_elements.proofs.GroupLaws.{judges_group, again_group}
 
 module _ (input : List ℕ) (fits : IsBytes input) where
-  abbrev Parts : Part → Type 0
+  abbrev Parts : Site → Type 0
   Parts = InOwnForm input
 
   -- ---- bodies
@@ -192,10 +192,10 @@ module _ (input : List ℕ) (fits : IsBytes input) where
   -- ---- elements
 
   abbrev JudgesElement : Tree → Result Element ℕ → Type 0
-  JudgesElement t = Judges Parts part_start (IsElement input t) (element_parts input t)
+  JudgesElement t = Judges Parts site_start (IsElement input t) (element_sites input t)
 
   abbrev JudgesWith : Tree → Option (ExGuid × (Serial × ℕ)) → Result Element ℕ → Type 0
-  JudgesWith t o = Judges Parts part_start (IsElement input t) (element t ∷ parts_behind o (out-Tree t).children)
+  JudgesWith t o = Judges Parts site_start (IsElement input t) (element t ∷ sites_behind o (out-Tree t).children)
 
   judges_element : (t : Tree) → JudgesElement t (element_at input t)
   unfolding element_at
@@ -215,33 +215,33 @@ module _ (input : List ℕ) (fits : IsBytes input) where
     each : Each (IsElement input) ts new
 
   abbrev JudgesElements : List Tree → List Element → Result (List Element) ℕ → Type 0
-  JudgesElements ts es = Judges Parts part_start (Behind ts es) (flat_map (element_parts input) ts)
+  JudgesElements ts es = Judges Parts site_start (Behind ts es) (flat_map (element_sites input) ts)
 
-  behind : (t : Tree) (ts : List Tree) (es : List Element) (e : Element) → IsElement input t e → AllByRecursion Parts (element_parts input t) → (r : Result (List Element) ℕ)
+  behind : (t : Tree) (ts : List Tree) (es : List Element) (e : Element) → IsElement input t e → AllByRecursion Parts (element_sites input t) → (r : Result (List Element) ℕ)
       → JudgesElements ts (es ++ e ∷ []) r → JudgesElements (t ∷ ts) es r
   behind t ts es e h own (Ok all) j = (
     record { new = e ∷ j.0.new; all_are = j.0.all_are ∙ append_assoc es (e ∷ []) j.0.new; each = (h, j.0.each) },
-    all-append Parts part_start (element_parts input t) (flat_map (element_parts input) ts) own j.1,
+    all-append Parts site_start (element_sites input t) (flat_map (element_sites input) ts) own j.1,
   )
-  behind t ts es e h own (Err place) j = broken_right Parts part_start (element_parts input t) (flat_map (element_parts input) ts) place own j
+  behind t ts es e h own (Err place) j = broken_right Parts site_start (element_sites input t) (flat_map (element_sites input) ts) place own j
 
   then_elements : (t : Tree) (ts : List Tree) (es : List Element) → ((more : List Element) → JudgesElements ts more (elements_from input more ts)) → (r : Result Element ℕ) → JudgesElement t r
       → JudgesElements (t ∷ ts) es (and_then r (λ e. elements_from input (es ++ e ∷ []) ts))
   then_elements t ts es rest (Ok e) j = behind t ts es e j.0 j.1 (elements_from input (es ++ e ∷ []) ts) (rest (es ++ e ∷ []))
-  then_elements t ts es rest (Err place) j = broken_left Parts part_start (element_parts input t) (flat_map (element_parts input) ts) place j
+  then_elements t ts es rest (Err place) j = broken_left Parts site_start (element_sites input t) (flat_map (element_sites input) ts) place j
 
   judges_elements : (ts : List Tree) (es : List Element) → JudgesElements ts es (elements_from input es ts)
   judges_elements [] es = (record { new = []; all_are = sym (append-nil es); each = tt }, tt)
   judges_elements (t ∷ ts) es = then_elements t ts es (judges_elements ts) (element_at input t) (judges_element t)
 
-  pub judges_package : (t : Tree) → Judges Parts part_start (IsPackage input t) (package_parts input t) (package_at input t)
+  pub judges_package : (t : Tree) → Judges Parts site_start (IsPackage input t) (package_sites input t) (package_at input t)
   unfolding package_at
   judges_package t = go (package_row input t) refl where
-    made : PackageFields input t → (r : Result (List Element) ℕ) → JudgesElements (children_of 0x01 t) [] r → Judges Parts part_start (IsPackage input t) (package_parts input t) r
+    made : PackageFields input t → (r : Result (List Element) ℕ) → JudgesElements (children_of 0x01 t) [] r → Judges Parts site_start (IsPackage input t) (package_sites input t) r
     made h (Ok all) j = ((h, subst (λ (l : List Element). Each (IsElement input) (children_of 0x01 t) l) (sym j.0.all_are) j.0.each), (h, j.1))
     made h (Err place) j = inr (h, j)
 
-    go : (o : Option ℕ) → package_row input t ≡ o → Judges Parts part_start (IsPackage input t) (package_parts input t) (package_with input t o)
+    go : (o : Option ℕ) → package_row input t ≡ o → Judges Parts site_start (IsPackage input t) (package_sites input t) (package_with input t o)
     go (Some b) e = made (package_found input fits t b e) (elements_from input [] (children_of 0x01 t)) (judges_elements (children_of 0x01 t) [])
     go None e = inl (λ own. let some = package_again input fits t own in absurd cc, refl)
 

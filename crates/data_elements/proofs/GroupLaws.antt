@@ -20,7 +20,7 @@ use Rattle.stream_objects.proofs.Children.{single_some, single_none}
 use Rattle.doc_model.specs.wire.ElementObjects.{ElementFields, BlobDeclaration, BlobReference}
 use Rattle.doc_model.specs.wire.Groups.{declarations_in, data_in, SaysContent, EachPair, SaysGroup, Agrees, EachAgrees, HalvesAgree}
 use Rattle.doc_model.specs.wire.Elements.{SaysBody}
-use Rattle.doc_model.specs.readers.ElementParts.{has_place, child_parts, members_in, ChildInForm, MemberInForm, KindInForm}
+use Rattle.doc_model.specs.readers.ElementSites.{has_place, child_sites, members_in, ChildInForm, MemberInForm, KindInForm}
 use Rattle.doc_model.specs.declared.element.Object.{Object}
 use Rattle.doc_model.specs.declared.element.Content.{Content}
 use Rattle.doc_model.specs.declared.element.Content.TheVariants.{Inline, Apart}
@@ -347,7 +347,7 @@ module _ (input : List ℕ) (fits : IsBytes input) where
   unfolding group_at
   judges_group t id serial has = go (single (children_of 0x1D t)) refl (single (children_of 0x1E t)) refl where
     read : (d h : Tree) → children_of 0x1D t ≡ d ∷ [] → children_of 0x1E t ≡ h ∷ [] → halves_agree input d h ≡ true
-        → AllByRecursion (Own input fits) (flat_map (child_parts 5) (out-Tree t).children) → (body : Body) × (group_of (objects_at input d h) ≡ Ok body) × SaysBody input t 5 body
+        → AllByRecursion (Own input fits) (flat_map (child_sites 5) (out-Tree t).children) → (body : Body) × (group_of (objects_at input d h) ≡ Ok body) × SaysBody input t 5 body
     read d h one two y own =
         let all = holds input fits (out-Tree t).children own in
         let p = half_holds 0x1D t d place_1D one all in

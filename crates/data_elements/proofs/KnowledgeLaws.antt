@@ -23,14 +23,14 @@ use Rattle.stream_objects.proofs.Children.{single_some, single_none}
 use Rattle.stream_objects.proofs.GatherLaws.{Behind, judges_gather, again_gather}
 use Rattle.doc_model.specs.wire.ElementObjects.{NoFields}
 use Rattle.doc_model.specs.wire.Knowledges.{cell_knowledge, RangeFields, EntryFields, SpecializedFields, entry_ranges, AddsRanges, SaysCells, AddsCells, SaysKnowledge}
-use Rattle.doc_model.specs.readers.KnowledgeParts.{Part, specialized, added, InOwnForm, part_start, cells_parts, guid_row, cells_behind, specialized_parts, knowledge_parts}
+use Rattle.doc_model.specs.readers.KnowledgeSites.{Site, specialized, added, InOwnForm, site_start, cells_sites, guid_row, cells_behind, specialized_sites, knowledge_sites}
 use Rattle.doc_model.specs.declared.knowledge.Range.{Range}
 use Rattle.data_elements.specs.Rows.{has_no_fields}
 use Rattle.data_elements.specs.KnowledgeReading.{range_of, range_row, entry_row, add_range, add_entry, added_at, cells_at, only_cells, specialized_with, specialized_at, knowledge_at}
 use Rattle.data_elements.proofs.RowLaws.{row_found, row_again, record_found, record_again, compound_row_found, compound_row_again, no_fields, no_fields_again}
 
 module _ (input : List ℕ) (fits : IsBytes input) where
-  abbrev Own : Part → Type 0
+  abbrev Own : Site → Type 0
   Own = InOwnForm input
 
   -- ---- rows
@@ -59,7 +59,7 @@ module _ (input : List ℕ) (fits : IsBytes input) where
   -- ---- what a child of a 14 adds
 
   abbrev JudgesAdded : Tree → List Range → Result (List Range) ℕ → Type 0
-  JudgesAdded t vs = Judges Own part_start (Behind (AddsRanges input t) vs) (added t ∷ [])
+  JudgesAdded t vs = Judges Own site_start (Behind (AddsRanges input t) vs) (added t ∷ [])
 
   adds : (t : Tree) (vs new : List Range) → AddsRanges input t new → JudgesAdded t vs (Ok (vs ++ new))
   adds t vs new a = (record { new = new; all_are = refl; is = a }, ((new, a), tt))
@@ -102,18 +102,18 @@ module _ (input : List ℕ) (fits : IsBytes input) where
 
   -- ---- a 14
 
-  judges_cells : (t : Tree) (vs : List Range) → Judges Own part_start (Behind (SaysCells input t) vs) (cells_parts t) (cells_at input vs t)
+  judges_cells : (t : Tree) (vs : List Range) → Judges Own site_start (Behind (SaysCells input t) vs) (cells_sites t) (cells_at input vs t)
   unfolding cells_at
   judges_cells t vs =
       elim (cases_Bool (has_no_fields input t)) [
         | inl y ↦
             rw y (made (no_fields input fits t y) (gather (added_at input) vs (out-Tree t).children)
-            (judges_gather Own part_start (AddsRanges input) (λ c. added c ∷ []) (added_at input) judges_added (out-Tree t).children vs))
+            (judges_gather Own site_start (AddsRanges input) (λ c. added c ∷ []) (added_at input) judges_added (out-Tree t).children vs))
         | inr n ↦ rw n (inl (λ own. let yes_none = no_fields_again input fits t own in absurd cc, refl))
       ] where
         made : NoFields input t → (r : Result (List Range) ℕ)
-            → Judges Own part_start (Behind (Gathers (AddsRanges input) (out-Tree t).children) vs) (flat_map (λ c. added c ∷ []) (out-Tree t).children) r
-            → Judges Own part_start (Behind (SaysCells input t) vs) (cells_parts t) r
+            → Judges Own site_start (Behind (Gathers (AddsRanges input) (out-Tree t).children) vs) (flat_map (λ c. added c ∷ []) (out-Tree t).children) r
+            → Judges Own site_start (Behind (SaysCells input t) vs) (cells_sites t) r
         made h (Ok all) j = (record { new = j.0.new; all_are = j.0.all_are; is = (h, j.0.is) }, (h, j.1))
         made h (Err place) j = inr (h, j)
 
@@ -124,23 +124,23 @@ module _ (input : List ℕ) (fits : IsBytes input) where
   -- ---- a 44
 
   abbrev JudgesSpecialized : Tree → List Range → Result (List Range) ℕ → Type 0
-  JudgesSpecialized t vs = Judges Own part_start (Behind (AddsCells input t) vs) (specialized t ∷ cells_behind (guid_row input t) (children_of 0x14 t))
+  JudgesSpecialized t vs = Judges Own site_start (Behind (AddsCells input t) vs) (specialized t ∷ cells_behind (guid_row input t) (children_of 0x14 t))
 
   one_guid : (t : Tree) (g h : Guid) → guid_row input t ≡ Some g → SpecializedFields input t h → h ≡ g
   one_guid t g h e f = let other = guid_again t h f in cc
 
   holds : (t c : Tree) (vs : List Range) (g : Guid) → kind_of t ≡ 0x44 → guid_row input t ≡ Some g → g.number ≡ cell_knowledge → children_of 0x14 t ≡ c ∷ [] → (r : Result (List Range) ℕ)
-      → Judges Own part_start (Behind (SaysCells input c) vs) (cells_parts c) r → JudgesSpecialized t vs r
+      → Judges Own site_start (Behind (SaysCells input c) vs) (cells_sites c) r → JudgesSpecialized t vs r
   holds t c vs g k e n one r j =
       let test : nat_eq g.number cell_knowledge ≡ true = eq-eqb g.number cell_knowledge n in
-      let parts : cells_behind (guid_row input t) (children_of 0x14 t) ≡ cells_parts c ++ [] = rw (e, test, one) refl in
-      subst (λ (ps : List Part). Judges Own part_start (Behind (AddsCells input t) vs) (specialized t ∷ ps) r) (sym (parts ∙ append-nil (cells_parts c))) (go r j)
+      let parts : cells_behind (guid_row input t) (children_of 0x14 t) ≡ cells_sites c ++ [] = rw (e, test, one) refl in
+      subst (λ (ps : List Site). Judges Own site_start (Behind (AddsCells input t) vs) (specialized t ∷ ps) r) (sym (parts ∙ append-nil (cells_sites c))) (go r j)
     where
       own : Own (specialized t)
       own = (g, guid_found t g e, λ m. (c, one))
 
-      go : (r : Result (List Range) ℕ) → Judges Own part_start (Behind (SaysCells input c) vs) (cells_parts c) r
-          → Judges Own part_start (Behind (AddsCells input t) vs) (specialized t ∷ cells_parts c) r
+      go : (r : Result (List Range) ℕ) → Judges Own site_start (Behind (SaysCells input c) vs) (cells_sites c) r
+          → Judges Own site_start (Behind (AddsCells input t) vs) (specialized t ∷ cells_sites c) r
       go (Ok all) j = (
         record {
           new = j.0.new;
@@ -175,7 +175,7 @@ module _ (input : List ℕ) (fits : IsBytes input) where
         )
         go n (Some c) f = holds t c vs g k e n (single_some (children_of 0x14 t) c f) (cells_at input vs c) (judges_cells c vs)
 
-  judges_specialized : (t : Tree) (vs : List Range) → Judges Own part_start (Behind (AddsCells input t) vs) (specialized_parts input t) (specialized_at input vs t)
+  judges_specialized : (t : Tree) (vs : List Range) → Judges Own site_start (Behind (AddsCells input t) vs) (specialized_sites input t) (specialized_at input vs t)
   unfolding specialized_at
   judges_specialized t vs =
       elim (eqb_tells (kind_of t) 0x44) [
@@ -199,18 +199,18 @@ module _ (input : List ℕ) (fits : IsBytes input) where
 
   -- ---- a 10
 
-  pub judges_knowledge : (t : Tree) → Judges Own part_start (SaysKnowledge input t) (knowledge_parts input t) (knowledge_at input t)
+  pub judges_knowledge : (t : Tree) → Judges Own site_start (SaysKnowledge input t) (knowledge_sites input t) (knowledge_at input t)
   unfolding knowledge_at
   judges_knowledge t =
       elim (cases_Bool (has_no_fields input t)) [
         | inl y ↦
             rw y (made (no_fields input fits t y) (gather (specialized_at input) [] (out-Tree t).children)
-            (judges_gather Own part_start (AddsCells input) (specialized_parts input) (specialized_at input) judges_specialized (out-Tree t).children []))
+            (judges_gather Own site_start (AddsCells input) (specialized_sites input) (specialized_at input) judges_specialized (out-Tree t).children []))
         | inr n ↦ rw n (inl (λ own. let yes_none = no_fields_again input fits t own in absurd cc, refl))
       ] where
         made : NoFields input t → (r : Result (List Range) ℕ)
-            → Judges Own part_start (Behind (Gathers (AddsCells input) (out-Tree t).children) []) (flat_map (specialized_parts input) (out-Tree t).children) r
-            → Judges Own part_start (SaysKnowledge input t) (knowledge_parts input t) r
+            → Judges Own site_start (Behind (Gathers (AddsCells input) (out-Tree t).children) []) (flat_map (specialized_sites input) (out-Tree t).children) r
+            → Judges Own site_start (SaysKnowledge input t) (knowledge_sites input t) r
         made h (Ok all) j = ((h, subst (Gathers (AddsCells input) (out-Tree t).children) (sym j.0.all_are) j.0.is), (h, j.1))
         made h (Err place) j = inr (h, j)
 

@@ -3,7 +3,7 @@ use Rattle.std.proofs.Common.{◌≡◌, ℕ, zero, suc, ◌<◌, false, List, [
 use Rattle.stream_objects.specs.declared.tree.Tree.{Tree}
 use Rattle.stream_objects.specs.Objects.{kind_of}
 use Rattle.doc_model.specs.wire.Groups.{data_in}
-use Rattle.doc_model.specs.readers.ElementParts.{members_in}
+use Rattle.doc_model.specs.readers.ElementSites.{members_in}
 use Rattle.data_elements.specs.declared.group.Link.{Link}
 use Rattle.data_elements.specs.GroupReading.{links_agree}
 

@@ -18,7 +18,7 @@ use Rattle.compact_values.proofs.Takes.{Takes, takes_compact, takes_exguid, take
 use Rattle.stream_objects.specs.declared.tree.Tree.{Tree}
 use Rattle.stream_objects.specs.Objects.{HasFields, fields_of, kind_of}
 use Rattle.doc_model.specs.wire.ElementObjects.{ObjectDeclaration, BlobDeclaration, ObjectData, BlobReference}
-use Rattle.doc_model.specs.readers.ElementParts.{MemberInForm}
+use Rattle.doc_model.specs.readers.ElementSites.{MemberInForm}
 use Rattle.data_elements.specs.Rows.{simple_row, take_declaration, without_counts, declaration_row, take_three, take_four, Declared, from_three, from_four, declared_row, data_row, reference_row, member_ok}
 use Rattle.data_elements.proofs.RowLaws.{is_some_value, row_found, row_again}
 

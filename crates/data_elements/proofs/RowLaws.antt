@@ -22,7 +22,7 @@ use Rattle.stream_objects.specs.declared.tree.Tree.TheViews.{out-Tree}
 use Rattle.stream_objects.specs.Objects.{HasFields, fields_of, kind_of}
 use Rattle.stream_objects.proofs.Children.{simple_gets, simple_again, compound_gets, compound_again, IsBytes-fields}
 use Rattle.doc_model.specs.wire.ElementObjects.{NoFields, PackageFields, ElementFields, BlobContent}
-use Rattle.doc_model.specs.readers.ElementParts.{ChildInForm, element_row}
+use Rattle.doc_model.specs.readers.ElementSites.{ChildInForm, element_row}
 use Rattle.data_elements.specs.Rows.{simple_row, compound_row, is_nothing, if_nothing, has_no_fields, package_row, blob_row, child_ok}
 
 pub is_some_value : {V : Type 0} (o : Option V) → is_some o ≡ true → (v : V) × (o ≡ Some v)

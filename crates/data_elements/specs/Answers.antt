@@ -3,11 +3,11 @@ use Rattle.std.specs.Prelude.{◌≡◌, ◌≢◌, ◌⊎◌, ◌<◌, ◌≤�
 use Rattle.stream_objects.specs.declared.tree.Tree.{Tree}
 use Rattle.stream_objects.specs.Parts.{IsFirstBroken}
 use Rattle.doc_model.specs.wire.Elements.{IsPackage}
-use Rattle.doc_model.specs.readers.ElementParts as elements
+use Rattle.doc_model.specs.readers.ElementSites as elements
 use Rattle.doc_model.specs.wire.Knowledges.{IsKnowledge}
-use Rattle.doc_model.specs.readers.KnowledgeParts as knowledges
+use Rattle.doc_model.specs.readers.KnowledgeSites as knowledges
 use Rattle.doc_model.specs.wire.NumberedElements.{IsNumberedPackage}
-use Rattle.doc_model.specs.readers.NumberedParts as numbered
+use Rattle.doc_model.specs.readers.NumberedSites as numbered
 use Rattle.doc_model.specs.declared.element.Element.{Element}
 use Rattle.doc_model.specs.declared.element.NumberedElement.{NumberedElement}
 use Rattle.doc_model.specs.declared.knowledge.Knowledge.{Knowledge}
@@ -17,30 +17,30 @@ use Rattle.doc_model.specs.rules.Limits.{most_elements}
 
 -- The elements of a package in form, at most 8,192; or where the fields of the first object start that isn't in its
 -- form; or all objects are in form and there are more elements.
-abbrev pub IsPackageAnswer : List ℕ → Tree → Result (List Element) ElementFault → Type 0
-IsPackageAnswer input tree (Ok elements) = IsPackage input tree elements × (length elements ≤ most_elements)
-IsPackageAnswer input tree (Err (SchemaFault place)) = IsFirstBroken (elements.InOwnForm input) elements.part_start (elements.package_parts input tree) place
-IsPackageAnswer input tree (Err TooMany) = (elements : List Element) × IsPackage input tree elements × (most_elements < length elements)
-IsPackageAnswer input tree (Err NoMemory) = Unit {0}
+abbrev pub IsPackageResult : List ℕ → Tree → Result (List Element) ElementFault → Type 0
+IsPackageResult input tree (Ok elements) = IsPackage input tree elements × (length elements ≤ most_elements)
+IsPackageResult input tree (Err (SchemaFault place)) = IsFirstBroken (elements.InOwnForm input) elements.site_start (elements.package_sites input tree) place
+IsPackageResult input tree (Err TooMany) = (elements : List Element) × IsPackage input tree elements × (most_elements < length elements)
+IsPackageResult input tree (Err NoMemory) = Unit {0}
 
 -- The knowledge; or where the fields of the first object start that isn't in its form.
-abbrev pub IsKnowledgeAnswer : List ℕ → Tree → Result Knowledge ElementFault → Type 0
-IsKnowledgeAnswer input tree (Ok knowledge) = IsKnowledge input tree knowledge
-IsKnowledgeAnswer input tree (Err (SchemaFault place)) = IsFirstBroken (knowledges.InOwnForm input) knowledges.part_start (knowledges.knowledge_parts input tree) place
-IsKnowledgeAnswer input tree (Err TooMany) = ⊥
-IsKnowledgeAnswer input tree (Err NoMemory) = Unit {0}
+abbrev pub IsKnowledgeResult : List ℕ → Tree → Result Knowledge ElementFault → Type 0
+IsKnowledgeResult input tree (Ok knowledge) = IsKnowledge input tree knowledge
+IsKnowledgeResult input tree (Err (SchemaFault place)) = IsFirstBroken (knowledges.InOwnForm input) knowledges.site_start (knowledges.knowledge_sites input tree) place
+IsKnowledgeResult input tree (Err TooMany) = ⊥
+IsKnowledgeResult input tree (Err NoMemory) = Unit {0}
 
 -- The elements of a package whose serial numbers aren't null, with the values of these; or where the fields of the first object
 -- start that isn't in its form.
-abbrev pub IsNumberedAnswer : List ℕ → Tree → Result (List NumberedElement) ElementFault → Type 0
-IsNumberedAnswer input tree (Ok ns) = IsNumberedPackage input tree ns
-IsNumberedAnswer input tree (Err (SchemaFault place)) = IsFirstBroken (numbered.InOwnForm input) elements.part_start (elements.package_parts input tree) place
-IsNumberedAnswer input tree (Err TooMany) = ⊥
-IsNumberedAnswer input tree (Err NoMemory) = Unit {0}
+abbrev pub IsNumberedResult : List ℕ → Tree → Result (List NumberedElement) ElementFault → Type 0
+IsNumberedResult input tree (Ok ns) = IsNumberedPackage input tree ns
+IsNumberedResult input tree (Err (SchemaFault place)) = IsFirstBroken (numbered.InOwnForm input) elements.site_start (elements.package_sites input tree) place
+IsNumberedResult input tree (Err TooMany) = ⊥
+IsNumberedResult input tree (Err NoMemory) = Unit {0}
 
 -- Unless memory ran out, it is the only answer of its kind.
 abbrev pub IsOnly : {V : Type 0} → (Result V ElementFault → Type 0) → Result V ElementFault → Type 0
-IsOnly {V} IsAnswer answer = (other : Result V ElementFault) → IsAnswer other → other ≢ Err NoMemory → (answer ≡ Err NoMemory) ⊎ (answer ≡ other)
+IsOnly {V} IsResult answer = (other : Result V ElementFault) → IsResult other → other ≢ Err NoMemory → (answer ≡ Err NoMemory) ⊎ (answer ≡ other)
 
 -- ---- the steps
 

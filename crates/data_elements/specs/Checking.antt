@@ -4,7 +4,7 @@ use Rattle.stream_objects.specs.declared.tree.Tree.{Tree}
 use Rattle.stream_objects.specs.Objects.{start_of, children_of}
 use Rattle.stream_objects.specs.ObjectFields.{single}
 use Rattle.stream_objects.specs.Gathering.{and_then}
-use Rattle.doc_model.specs.readers.ElementParts.{has_place, members_in}
+use Rattle.doc_model.specs.readers.ElementSites.{has_place, members_in}
 use Rattle.data_elements.specs.Rows.{child_ok, member_ok}
 
 -- the first fault of two

@@ -10,7 +10,7 @@ use Rattle.stream_objects.specs.ObjectFields.{single}
 use Rattle.stream_objects.specs.Gathering.{gather}
 use Rattle.stream_objects.specs.declared.object_types.TheConstants.{CELL_KNOWLEDGE, CELL_KNOWLEDGE_ENTRY, CELL_KNOWLEDGE_RANGE, SPECIALIZED_KNOWLEDGE}
 use Rattle.doc_model.specs.wire.Knowledges.{cell_knowledge, entry_ranges}
-use Rattle.doc_model.specs.readers.KnowledgeParts.{guid_row}
+use Rattle.doc_model.specs.readers.KnowledgeSites.{guid_row}
 use Rattle.doc_model.specs.declared.knowledge.Range.{Range}
 use Rattle.data_elements.specs.Rows.{simple_row, has_no_fields}
 

@@ -8,7 +8,7 @@ use Rattle.stream_objects.specs.declared.tree.Tree.{Tree}
 use Rattle.stream_objects.specs.Objects.{start_of, children_of}
 use Rattle.stream_objects.specs.Gathering.{and_then}
 use Rattle.stream_objects.specs.declared.object_types.TheConstants.{DATA_ELEMENT}
-use Rattle.doc_model.specs.readers.ElementParts.{element_row}
+use Rattle.doc_model.specs.readers.ElementSites.{element_row}
 use Rattle.doc_model.specs.declared.element.Body.{Body}
 use Rattle.doc_model.specs.declared.element.NumberedElement.{NumberedElement}
 use Rattle.data_elements.specs.Rows.{package_row}

@@ -11,7 +11,7 @@ use Rattle.stream_objects.specs.Objects.{start_of, children_of}
 use Rattle.stream_objects.specs.ObjectFields.{single}
 use Rattle.stream_objects.specs.Gathering.{and_then}
 use Rattle.stream_objects.specs.declared.object_types.TheConstants.{CELL_MANIFEST_CURRENT_REVISION, DATA_ELEMENT, OBJECT_DATA_BLOB, REVISION_MANIFEST, REVISION_MANIFEST_OBJECT_GROUP_REFERENCES, REVISION_MANIFEST_ROOT_DECLARE, STORAGE_INDEX_CELL_MAPPING, STORAGE_INDEX_MANIFEST_MAPPING, STORAGE_INDEX_REVISION_MAPPING, STORAGE_MANIFEST_ROOT_DECLARE, STORAGE_MANIFEST_SCHEMA_GUID}
-use Rattle.doc_model.specs.readers.ElementParts.{element_row}
+use Rattle.doc_model.specs.readers.ElementSites.{element_row}
 use Rattle.doc_model.specs.declared.element.Element.{Element}
 use Rattle.doc_model.specs.declared.element.Body.{Body}
 use Rattle.doc_model.specs.declared.element.Body.TheVariants.{Index, Storage, Cell, Revision, Blob}

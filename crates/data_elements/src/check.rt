@@ -1,7 +1,7 @@
 // Whether the children of an element are in form.
 ghost use Rattle.std.specs.Prelude.{◌≡◌, ◌==◌, ◌||◌, [], ◌∷◌, filter, None, if◌then◌else◌};
 ghost use Rattle.stream_objects.specs.Objects.{is_kind};
-ghost use Rattle.doc_model.specs.readers.ElementParts.{has_place, members_in};
+ghost use Rattle.doc_model.specs.readers.ElementSites.{has_place, members_in};
 ghost use Rattle.data_elements.specs.Checking.{check_at, check_members, child_fault};
 ghost use Rattle.data_elements.specs.Answers.{Passes};
 

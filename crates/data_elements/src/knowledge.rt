@@ -1,8 +1,8 @@
 // Knowledge: the ranges of serial numbers that a client names.
 ghost use Rattle.std.specs.Prelude.{◌≡◌, List, [], ◌∷◌, ◌++◌, Ok};
 ghost use Rattle.stream_objects.specs.Gathering.{gather};
-ghost use Rattle.doc_model.specs.readers.KnowledgeParts.{guid_row};
-ghost use Rattle.data_elements.specs.Answers.{Gives, GivesTo, IsKnowledgeAnswer, IsOnly};
+ghost use Rattle.doc_model.specs.readers.KnowledgeSites.{guid_row};
+ghost use Rattle.data_elements.specs.Answers.{Gives, GivesTo, IsKnowledgeResult, IsOnly};
 ghost use Rattle.data_elements.specs.KnowledgeReading.{range_row, entry_row, added_at, cells_at, specialized_at, knowledge_at};
 
 use crate::fault::{ElementFault, fault};
@@ -146,7 +146,7 @@ fn read_ranges(alloc: Global, bytes: &[u8], tree: &Tree) -> Result<Ranges, Eleme
 }
 
 fn read_whole(alloc: Global, bytes: &[u8], tree: &Tree) -> Result<Knowledge, ElementFault>
-    ensures { IsKnowledgeAnswer bytes.now tree.now result }
+    ensures { IsKnowledgeResult bytes.now tree.now result }
 {
     match read_ranges(alloc, bytes, tree) {
         Ok(ranges) => Ok(Knowledge { ranges }),
@@ -162,9 +162,9 @@ fn read_whole(alloc: Global, bytes: &[u8], tree: &Tree) -> Result<Knowledge, Ele
 /// object in reading order. `NoMemory` may come in place of any answer. `TooMany` never comes.
 pub fn read_knowledge(alloc: Global, bytes: &[u8], tree: &Tree) -> Result<Knowledge, ElementFault>
     // It is the knowledge, or the refusal.
-    ensures answer { IsKnowledgeAnswer bytes.now tree.now result }
+    ensures answer { IsKnowledgeResult bytes.now tree.now result }
     // There is no other answer, unless memory runs out.
-    ensures only { IsOnly (IsKnowledgeAnswer bytes.now tree.now) result }
+    ensures only { IsOnly (IsKnowledgeResult bytes.now tree.now) result }
 {
     read_whole(alloc, bytes, tree)
 }

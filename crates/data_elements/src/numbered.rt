@@ -2,7 +2,7 @@
 ghost use Rattle.std.specs.Prelude.{◌≡◌, [], filter};
 ghost use Rattle.stream_objects.specs.Objects.{is_kind};
 ghost use Rattle.data_elements.specs.NumberedReading.{numbered_at, numbered_from, numbered_package_at};
-ghost use Rattle.data_elements.specs.Answers.{Gives, IsNumberedAnswer, IsOnly};
+ghost use Rattle.data_elements.specs.Answers.{Gives, IsNumberedResult, IsOnly};
 ghost use Rattle.stream_objects.specs.declared.object_types.TheConstants.{DATA_ELEMENT};
 
 use crate::body::read_body;
@@ -59,7 +59,7 @@ fn read_all(alloc: Global, bytes: &[u8], tree: &Tree) -> Result<Numbered, Elemen
 }
 
 fn read_whole(alloc: Global, bytes: &[u8], tree: &Tree) -> Result<Numbered, ElementFault>
-    ensures { IsNumberedAnswer bytes.now tree.now result }
+    ensures { IsNumberedResult bytes.now tree.now result }
 {
     read_all(alloc, bytes, tree)
 }
@@ -72,9 +72,9 @@ fn read_whole(alloc: Global, bytes: &[u8], tree: &Tree) -> Result<Numbered, Elem
 /// `TooMany` never comes.
 pub fn read_numbered(alloc: Global, bytes: &[u8], tree: &Tree) -> Result<Numbered, ElementFault>
     // It is the elements of the package, or the refusal.
-    ensures answer { IsNumberedAnswer bytes.now tree.now result }
+    ensures answer { IsNumberedResult bytes.now tree.now result }
     // There is no other answer, unless memory runs out.
-    ensures only { IsOnly (IsNumberedAnswer bytes.now tree.now) result }
+    ensures only { IsOnly (IsNumberedResult bytes.now tree.now) result }
 {
     read_whole(alloc, bytes, tree)
 }

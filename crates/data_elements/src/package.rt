@@ -2,7 +2,7 @@
 ghost use Rattle.std.specs.Prelude.{◌≡◌, [], filter};
 ghost use Rattle.stream_objects.specs.Objects.{is_kind};
 ghost use Rattle.data_elements.specs.Reading.{element_at, elements_from, package_at};
-ghost use Rattle.data_elements.specs.Answers.{Gives, IsPackageAnswer, IsOnly};
+ghost use Rattle.data_elements.specs.Answers.{Gives, IsPackageResult, IsOnly};
 ghost use Rattle.stream_objects.specs.declared.object_types.TheConstants.{DATA_ELEMENT};
 
 use crate::body::read_body;
@@ -56,7 +56,7 @@ fn read_all(alloc: Global, bytes: &[u8], tree: &Tree) -> Result<Elements, Elemen
 
 /// The elements of the package, if there are not too many.
 fn read_some(alloc: Global, bytes: &[u8], tree: &Tree) -> Result<Elements, ElementFault>
-    ensures { IsPackageAnswer bytes.now tree.now result }
+    ensures { IsPackageResult bytes.now tree.now result }
 {
     match read_all(alloc, bytes, tree) {
         Ok(elements) => {
@@ -78,9 +78,9 @@ fn read_some(alloc: Global, bytes: &[u8], tree: &Tree) -> Result<Elements, Eleme
 /// come in place of any answer.
 pub fn read_package(alloc: Global, bytes: &[u8], tree: &Tree) -> Result<Elements, ElementFault>
     // It is the elements of the package, or the refusal.
-    ensures answer { IsPackageAnswer bytes.now tree.now result }
+    ensures answer { IsPackageResult bytes.now tree.now result }
     // There is no other answer, unless memory runs out.
-    ensures only { IsOnly (IsPackageAnswer bytes.now tree.now) result }
+    ensures only { IsOnly (IsPackageResult bytes.now tree.now) result }
 {
     read_some(alloc, bytes, tree)
 }

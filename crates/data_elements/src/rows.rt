@@ -1,7 +1,7 @@
 // The fields of the children of elements, one function for each form of fields.
 ghost use Rattle.std.specs.Prelude.{◌≡◌, IfOk, is_some, option_map};
 ghost use Rattle.wire_kinds.specs.Row.{row_at};
-ghost use Rattle.doc_model.specs.readers.ElementParts.{element_row};
+ghost use Rattle.doc_model.specs.readers.ElementSites.{element_row};
 ghost use Rattle.data_elements.specs.Rows.{package_row, has_no_fields, blob_row, child_ok};
 
 use compact_values::{

@@ -9,16 +9,16 @@ use Rattle.doc_model.specs.declared.doc.Doc.{Doc}
 use Rattle.doc_model.specs.declared.reply.Submitted.{Submitted}
 use Rattle.doc_model.specs.declared.reply.Submitted.TheVariants.{Answered, DiskFault, JournalFull, NoMemory}
 use Rattle.doc_model.specs.rules.Apply.{apply, replay}
-use Rattle.doc_model.specs.rules.Histories.{History, EachMoves, IsHistory, Placed, GoOn, Stands, turn_at, moves, Attempt, placed, answered, is_answered, has_moved, HasCause, Tried}
+use Rattle.doc_model.specs.rules.Histories.{History, EachMoves, IsHistory, Placed, GoOn, Stands, effect_at, moves, Attempt, placed, answered, is_answered, has_moved, HasCause, Tried}
 use Rattle.doc_model.specs.laws.Histories.{gained, Became, TriedNothing, TriedLater, TriedWithNext, HistoryAtFirst, HistoryWithGained}
 use Rattle.doc_model.specs.rules.Sound.{Valid}
-use Rattle.doc_model.specs.rules.Turns.{Turn}
+use Rattle.doc_model.specs.rules.Effects.{Effect}
 use Rattle.doc_model.proofs.EachItem.{each-as, each-both}
-use Rattle.doc_model.proofs.Growing.{stands-nowhere, stands-later, stands-with-next, turn-longer, turn-end, same-order, next-order, are-in}
+use Rattle.doc_model.proofs.Growing.{stands-nowhere, stands-later, stands-with-next, effect-longer, effect-end, same-order, next-order, are-in}
 
 -- the causes, on a document with this history
 abbrev pub Caused : Doc → ℕ → History → Attempt → Type 0
-Caused doc bodies history x = HasCause (turn_at doc history x.at x.call).moved bodies x x.made.submitted
+Caused doc bodies history x = HasCause (effect_at doc history x.at x.call).moved bodies x x.made.submitted
 
 pub tried-nothing : TriedNothing
 tried-nothing doc bodies history n e = record {
@@ -52,14 +52,14 @@ module _ (doc : Doc) (bodies : ℕ) (history more : History) (n : ℕ) (made : L
   causes-longer : All (Caused doc bodies (history ++ more)) made
   causes-longer = λ k d lt.
       let x = get_or made k d in
-      subst (λ (u : Turn). HasCause u.moved bodies x x.made.submitted) (sym (turn-longer doc history more x.at x.call (t.within k d lt))) (t.causes k d lt)
+      subst (λ (u : Effect). HasCause u.moved bodies x x.made.submitted) (sym (effect-longer doc history more x.at x.call (t.within k d lt))) (t.causes k d lt)
 
   -- none moves at the end or behind it
   abbrev Ends : Placed → Type 0
   Ends y = cond (moves doc (history ++ more) y) (y.at + 1) y.at ≤ length history
 
   end-of : (at : ℕ) (call : Call) (s : Submitted) → Replied Ends at call s → at ≤ length history
-      → cond (is_answered s && (turn_at doc (history ++ more) at call).moved) (at + 1) at ≤ length history
+      → cond (is_answered s && (effect_at doc (history ++ more) at call).moved) (at + 1) at ≤ length history
   end-of at call (Answered reply) h le = h
   end-of at call NoMemory h le = le
   end-of at call DiskFault h le = le
@@ -77,7 +77,7 @@ module _ (doc : Doc) (bodies : ℕ) (history more : History) (n : ℕ) (made : L
   order-longer =
       same-order (λ x. x.at) (has_moved doc history) (has_moved doc (history ++ more)) 0 made
       (recursion_from_All (λ x. has_moved doc (history ++ more) x ≡ has_moved doc history x) made
-      (λ k d lt. let x = get_or made k d in ap (λ (u : Turn). is_answered x.made.submitted && u.moved) (turn-longer doc history more x.at x.call (t.within k d lt))))
+      (λ k d lt. let x = get_or made k d in ap (λ (u : Effect). is_answered x.made.submitted && u.moved) (effect-longer doc history more x.at x.call (t.within k d lt))))
       t.order
 
 pub tried-later : TriedLater
@@ -97,23 +97,23 @@ module _ (doc : Doc) (bodies : ℕ) (history : History) (n : ℕ) where
       (stands-later doc history [] n (answered made) s refl)
 
   module _ (at : ℕ) (call : Call) (before after : ℕ) (here : at ≡ length history) where
-    abbrev turn : Turn
-    turn = apply (replay doc history) call
+    abbrev effect : Effect
+    effect = apply (replay doc history) call
 
     abbrev tried : Submitted → Attempt
     tried submitted = record { at = at; call = call; made = record { submitted = submitted; before = before; after = after } }
 
-    stands-next : (made : List Attempt) (submitted : Submitted) → Stands doc history n (answered made) → Became turn bodies (tried submitted) submitted
-        → Stands doc (history ++ gained n call submitted turn.moved) n (answered (made ++ tried submitted ∷ []))
+    stands-next : (made : List Attempt) (submitted : Submitted) → Stands doc history n (answered made) → Became effect bodies (tried submitted) submitted
+        → Stands doc (history ++ gained n call submitted effect.moved) n (answered (made ++ tried submitted ∷ []))
     stands-next made (Answered reply) s b =
-        subst (Stands doc (history ++ gained n call (Answered reply) turn.moved) n)
+        subst (Stands doc (history ++ gained n call (Answered reply) effect.moved) n)
         (sym (filter_map-append (λ y. placed y.at y.call y.made.submitted) made (tried (Answered reply) ∷ [])))
         (stands-with-next doc history n (answered made) (record { at = at; call = call; reply = reply }) s here b)
     stands-next made NoMemory s b = unanswered made (tried NoMemory) s refl
     stands-next made DiskFault s b = unanswered made (tried DiskFault) s refl
     stands-next made JournalFull s b = unanswered made (tried JournalFull) s refl
 
-    cause-next : (submitted : Submitted) → Became turn bodies (tried submitted) submitted → HasCause turn.moved bodies (tried submitted) submitted
+    cause-next : (submitted : Submitted) → Became effect bodies (tried submitted) submitted → HasCause effect.moved bodies (tried submitted) submitted
     cause-next (Answered reply) b = tt
     cause-next NoMemory b = b
     cause-next DiskFault b = b
@@ -125,7 +125,7 @@ module _ (doc : Doc) (bodies : ℕ) (history : History) (n : ℕ) where
 
     cause-there : Caused doc bodies (history ++ more) x
     cause-there =
-        subst (λ (u : Turn). HasCause u.moved bodies x x.made.submitted) (sym (turn-end doc history more x.at x.call here))
+        subst (λ (u : Effect). HasCause u.moved bodies x x.made.submitted) (sym (effect-end doc history more x.at x.call here))
         (cause-next x.at x.call x.made.before x.made.after here x.made.submitted b)
 
     tried-next : (made : List Attempt) → Tried doc bodies history n made → Tried doc bodies (history ++ more) n (made ++ x ∷ [])

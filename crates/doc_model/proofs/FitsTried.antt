@@ -6,7 +6,7 @@ use Rattle.doc_model.specs.declared.doc.Doc.{Doc}
 use Rattle.doc_model.specs.declared.reply.Submitted.{Submitted}
 use Rattle.doc_model.specs.declared.reply.Submitted.TheVariants.{Answered, DiskFault, JournalFull, NoMemory}
 use Rattle.doc_model.specs.rules.Apply.{replay}
-use Rattle.doc_model.specs.rules.Histories.{History, Fits, HasCause, Attempt, Placed, answered, turn_at}
+use Rattle.doc_model.specs.rules.Histories.{History, Fits, HasCause, Attempt, Placed, answered, effect_at}
 use Rattle.doc_model.specs.laws.Histories.{FitsWhatWasTried, MovesByKind}
 use Rattle.doc_model.specs.rules.Sound.{Sound, Valid}
 use Rattle.doc_model.proofs.Attempts.{Replied, each-replied, Caused}
@@ -19,10 +19,10 @@ moves-by-kind doc call h = grind arith
 module _ (doc : Doc) (history : History) (s : Sound doc) (v : All (λ item. Valid item.1) history) where
   -- what is answered as the document says at a place
   abbrev AsThere : Placed → Type 0
-  AsThere x = x.reply ≡ (turn_at doc history x.at x.call).reply
+  AsThere x = x.reply ≡ (effect_at doc history x.at x.call).reply
 
   fits-there : (bodies : ℕ) (x : Attempt) (submitted : Submitted) → Replied AsThere x.at x.call submitted
-      → HasCause (turn_at doc history x.at x.call).moved bodies x submitted → Fits x.call submitted
+      → HasCause (effect_at doc history x.at x.call).moved bodies x submitted → Fits x.call submitted
   fits-there bodies x (Answered reply) r c =
       (replay doc (take x.at history), (histories-follow doc (take x.at history) s (All-take (λ item. Valid item.1) x.at history v)).0, sym r)
   fits-there bodies x NoMemory r c = tt

@@ -20,7 +20,7 @@ use Rattle.doc_model.specs.rules.Locking.{do_lock}
 use Rattle.doc_model.specs.rules.Locks.{live, allowed}
 use Rattle.doc_model.specs.rules.Puts.{is_part, part_refusal, commit_refusal, kept, committed, fresh, sent_to}
 use Rattle.doc_model.specs.rules.Sound.{IsSoundCommit, Sound, Valid}
-use Rattle.doc_model.specs.rules.Turns.{Turn, unless}
+use Rattle.doc_model.specs.rules.Effects.{Effect, unless}
 use Rattle.doc_model.specs.rules.Versions.{version, restore_version, restore_refusal, restored, index_like, new_index}
 use Rattle.doc_model.proofs.Added.{file-stays}
 use Rattle.doc_model.proofs.EachItem.{each-as, each-both, each-front}
@@ -37,11 +37,11 @@ same-content doc later a c = record {
   files = λ k d lt. ap (λ (es : List Element). file es (get_or doc.commits k d).index) a;
 }
 
-either : (doc : Doc) (b : Bool) (x y : Turn) → Follows doc x.doc → Follows doc y.doc → Follows doc (cond b x y).doc
+either : (doc : Doc) (b : Bool) (x y : Effect) → Follows doc x.doc → Follows doc y.doc → Follows doc (cond b x y).doc
 either doc true x y p q = p
 either doc false x y p q = q
 
-unless-refused : (doc : Doc) (o : Option Code) (done : Turn) → Follows doc done.doc → Follows doc (unless o doc done).doc
+unless-refused : (doc : Doc) (o : Option Code) (done : Effect) → Follows doc done.doc → Follows doc (unless o doc done).doc
 unless-refused doc None done p = p
 unless-refused doc (Some c) done p = same-content doc doc refl refl
 

@@ -9,14 +9,14 @@ use Rattle.doc_model.specs.declared.call.Call.{Call}
 use Rattle.doc_model.specs.declared.doc.Doc.{Doc}
 use Rattle.doc_model.specs.declared.reply.Submitted.TheVariants.{Answered}
 use Rattle.doc_model.specs.rules.Apply.{apply, replay}
-use Rattle.doc_model.specs.rules.Histories.{History, Placed, GoOn, Stands, calls_by, moved_calls, moves, turn_at}
+use Rattle.doc_model.specs.rules.Histories.{History, Placed, GoOn, Stands, calls_by, moved_calls, moves, effect_at}
 use Rattle.doc_model.specs.laws.Histories.{gained, StandsNowhere, StandsLater, StandsWithNext}
-use Rattle.doc_model.specs.rules.Turns.{Turn}
+use Rattle.doc_model.specs.rules.Effects.{Effect}
 
 pub stands-nowhere : StandsNowhere
 stands-nowhere doc history n e = record {
   within = All-nil (λ x. x.at ≤ length history);
-  replies = All-nil (λ x. x.reply ≡ (turn_at doc history x.at x.call).reply);
+  replies = All-nil (λ x. x.reply ≡ (effect_at doc history x.at x.call).reply);
   held = All-nil (λ x. moves doc history x ≡ true → slice_get history x.at ≡ Some (n, x.call));
   order = tt;
   changes = sym e;
@@ -34,12 +34,12 @@ slice_get-end [] x = refl
 slice_get-end (y ∷ xs) x = slice_get-end xs x
 
 -- up to its end a history's calls do the same in a longer one
-pub turn-longer : (doc : Doc) (history more : History) (at : ℕ) (call : Call) → at ≤ length history → turn_at doc (history ++ more) at call ≡ turn_at doc history at call
-turn-longer doc history more at call le = ap (λ (xs : History). apply (replay doc xs) call) (take-append-le at history more le)
+pub effect-longer : (doc : Doc) (history more : History) (at : ℕ) (call : Call) → at ≤ length history → effect_at doc (history ++ more) at call ≡ effect_at doc history at call
+effect-longer doc history more at call le = ap (λ (xs : History). apply (replay doc xs) call) (take-append-le at history more le)
 
-pub turn-end : (doc : Doc) (history more : History) (at : ℕ) (call : Call) → at ≡ length history → turn_at doc (history ++ more) at call ≡ apply (replay doc history) call
-turn-end doc history more at call e =
-    turn-longer doc history more at call (omega (arith, e)) ∙ ap (λ (xs : History). apply (replay doc xs) call) (take_all at history (omega (arith, e)))
+pub effect-end : (doc : Doc) (history more : History) (at : ℕ) (call : Call) → at ≡ length history → effect_at doc (history ++ more) at call ≡ apply (replay doc history) call
+effect-end doc history more at call e =
+    effect-longer doc history more at call (omega (arith, e)) ∙ ap (λ (xs : History). apply (replay doc xs) call) (take_all at history (omega (arith, e)))
 
 calls_by-append : (n : ℕ) (xs ys : History) → calls_by n (xs ++ ys) ≡ calls_by n xs ++ calls_by n ys
 calls_by-append n xs ys =
@@ -79,20 +79,20 @@ next-order at moved from (y ∷ ys) x e le g = (g.0, next-order at moved (cond (
 -- all that calls which stand in a history are in a longer one, but for the changes
 pub record AreIn (doc : Doc) (history more : History) (n : ℕ) (mine : List Placed) : Type 0 where
   pub within : All (λ x. x.at ≤ length (history ++ more)) mine
-  pub replies : All (λ x. x.reply ≡ (turn_at doc (history ++ more) x.at x.call).reply) mine
+  pub replies : All (λ x. x.reply ≡ (effect_at doc (history ++ more) x.at x.call).reply) mine
   pub held : All (λ x. moves doc (history ++ more) x ≡ true → slice_get (history ++ more) x.at ≡ Some (n, x.call)) mine
   pub order : GoOn (λ x. x.at) (moves doc (history ++ more)) 0 mine
   pub changes : moved_calls (moves doc (history ++ more)) mine ≡ calls_by n history
   pub before_end : Each (λ x. cond (moves doc (history ++ more) x) (x.at + 1) x.at ≤ length history) mine
 
 module _ (doc : Doc) (history more : History) (n : ℕ) (mine : List Placed) (s : Stands doc history n mine) where
-  pub same-turns : All (λ x. turn_at doc (history ++ more) x.at x.call ≡ turn_at doc history x.at x.call) mine
-  same-turns k d lt = let x = get_or mine k d in turn-longer doc history more x.at x.call (s.within k d lt)
+  pub same-effects : All (λ x. effect_at doc (history ++ more) x.at x.call ≡ effect_at doc history x.at x.call) mine
+  same-effects k d lt = let x = get_or mine k d in effect-longer doc history more x.at x.call (s.within k d lt)
 
   same-moves : Each (λ x. moves doc (history ++ more) x ≡ moves doc history x) mine
   same-moves =
       recursion_from_All (λ x. moves doc (history ++ more) x ≡ moves doc history x) mine
-      (λ k d lt. ap (λ (t : Turn). t.moved) (same-turns k d lt))
+      (λ k d lt. ap (λ (t : Effect). t.moved) (same-effects k d lt))
 
   ends : (x : Placed) (b : Bool) → moves doc (history ++ more) x ≡ b → moves doc (history ++ more) x ≡ moves doc history x → x.at ≤ length history
       → (moves doc history x ≡ true → slice_get history x.at ≡ Some (n, x.call)) → cond b (x.at + 1) x.at ≤ length history
@@ -102,14 +102,14 @@ module _ (doc : Doc) (history more : History) (n : ℕ) (mine : List Placed) (s 
   pub are-in : AreIn doc history more n mine
   are-in = record {
     within = λ k d lt. let le = s.within k d lt in let more_long = length-append history more in omega arith;
-    replies = λ k d lt. s.replies k d lt ∙ sym (ap (λ (t : Turn). t.reply) (same-turns k d lt));
+    replies = λ k d lt. s.replies k d lt ∙ sym (ap (λ (t : Effect). t.reply) (same-effects k d lt));
     held = λ k d lt m.
         let x = get_or mine k d in
-        slice_get-longer history more x.at (n, x.call) (s.held k d lt (sym (ap (λ (t : Turn). t.moved) (same-turns k d lt)) ∙ m));
+        slice_get-longer history more x.at (n, x.call) (s.held k d lt (sym (ap (λ (t : Effect). t.moved) (same-effects k d lt)) ∙ m));
     order = same-order (λ x. x.at) (moves doc history) (moves doc (history ++ more)) 0 mine same-moves s.order;
     changes = same-moved (moves doc history) (moves doc (history ++ more)) mine same-moves ∙ s.changes;
     before_end = recursion_from_All (λ x. cond (moves doc (history ++ more) x) (x.at + 1) x.at ≤ length history) mine
-        (λ k d lt. let x = get_or mine k d in ends x (moves doc (history ++ more) x) refl (ap (λ (t : Turn). t.moved) (same-turns k d lt)) (s.within k d lt) (s.held k d lt));
+        (λ k d lt. let x = get_or mine k d in ends x (moves doc (history ++ more) x) refl (ap (λ (t : Effect). t.moved) (same-effects k d lt)) (s.within k d lt) (s.held k d lt));
   }
 
 pub stands-later : StandsLater
@@ -123,14 +123,14 @@ stands-later doc history more n mine s e =
     }
 
 module _ (doc : Doc) (history : History) (n : ℕ) (x : Placed) (here : x.at ≡ length history) where
-  abbrev turn : Turn
-  turn = apply (replay doc history) x.call
+  abbrev effect : Effect
+  effect = apply (replay doc history) x.call
 
   abbrev more : History
-  more = gained n x.call (Answered x.reply) turn.moved
+  more = gained n x.call (Answered x.reply) effect.moved
 
-  turn-there : turn_at doc (history ++ more) x.at x.call ≡ turn
-  turn-there = turn-end doc history more x.at x.call here
+  effect-there : effect_at doc (history ++ more) x.at x.call ≡ effect
+  effect-there = effect-end doc history more x.at x.call here
 
   -- where it moves, it stands at the end
   held-there : (b : Bool) → b ≡ true → slice_get (history ++ gained n x.call (Answered x.reply) b) x.at ≡ Some (n, x.call)
@@ -144,17 +144,17 @@ module _ (doc : Doc) (history : History) (n : ℕ) (x : Placed) (here : x.at ≡
       ∙ sym (ap (λ (c : Bool). map (λ (y : ℕ × Call). y.1) (cond c ((n, x.call) ∷ []) [])) (eq-eqb n n refl))
   gained-one moved false e = ap (λ (c : Bool). map (λ (y : Placed). y.call) (cond c (x ∷ []) [])) e
 
-  next : (mine : List Placed) → AreIn doc history more n mine → x.reply ≡ turn.reply → Stands doc (history ++ more) n (mine ++ x ∷ [])
+  next : (mine : List Placed) → AreIn doc history more n mine → x.reply ≡ effect.reply → Stands doc (history ++ more) n (mine ++ x ∷ [])
   next mine there r = record {
     within = All-push (λ y. y.at ≤ length (history ++ more)) mine x there.within (let long = length-append history more in omega (arith, here));
-    replies = All-push (λ y. y.reply ≡ (turn_at doc (history ++ more) y.at y.call).reply) mine x there.replies (r ∙ sym (ap (λ (t : Turn). t.reply) turn-there));
+    replies = All-push (λ y. y.reply ≡ (effect_at doc (history ++ more) y.at y.call).reply) mine x there.replies (r ∙ sym (ap (λ (t : Effect). t.reply) effect-there));
     held = All-push (λ y. moves doc (history ++ more) y ≡ true → slice_get (history ++ more) y.at ≡ Some (n, y.call)) mine x there.held
-        (λ m. held-there turn.moved (sym (ap (λ (t : Turn). t.moved) turn-there) ∙ m));
+        (λ m. held-there effect.moved (sym (ap (λ (t : Effect). t.moved) effect-there) ∙ m));
     order = next-order (λ x. x.at) (moves doc (history ++ more)) 0 mine x
         (subst (λ (k : ℕ). Each (λ y. cond (moves doc (history ++ more) y) (y.at + 1) y.at ≤ k) mine) (sym here) there.before_end) (omega arith) there.order;
     changes = moved_calls-append (moves doc (history ++ more)) mine (x ∷ [])
         ∙ ap (λ (cs : List Call). cs ++ moved_calls (moves doc (history ++ more)) (x ∷ [])) there.changes
-        ∙ ap (λ (cs : List Call). calls_by n history ++ cs) (gained-one (moves doc (history ++ more)) turn.moved (ap (λ (t : Turn). t.moved) turn-there))
+        ∙ ap (λ (cs : List Call). calls_by n history ++ cs) (gained-one (moves doc (history ++ more)) effect.moved (ap (λ (t : Effect). t.moved) effect-there))
         ∙ sym (calls_by-append n history more);
   }
 

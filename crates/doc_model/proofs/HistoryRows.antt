@@ -14,7 +14,7 @@ use Rattle.doc_model.specs.declared.reply.Submitted.{Submitted}
 use Rattle.doc_model.specs.declared.reply.Submitted.TheVariants.{Answered, DiskFault}
 use Rattle.doc_model.specs.declared.reply.Reply.TheVariants as reply
 use Rattle.doc_model.specs.rules.Apply.{empty_doc}
-use Rattle.doc_model.specs.rules.Histories.{History, EachMoves, Placed, Stands, moves, turn_at, Attempt, Tried}
+use Rattle.doc_model.specs.rules.Histories.{History, EachMoves, Placed, Stands, moves, effect_at, Attempt, Tried}
 use Rattle.doc_model.specs.laws.Histories.{changes_of}
 use Rattle.doc_model.proofs.Attempts.{tried-nothing, tried-with-next}
 use Rattle.doc_model.proofs.Growing.{stands-nowhere, stands-later, stands-with-next}
@@ -47,7 +47,7 @@ abbrev IsWithin : Placed → Type 0
 IsWithin x = x.at ≤ length history
 
 abbrev IsAnswered : Placed → Type 0
-IsAnswered x = x.reply ≡ (turn_at doc history x.at x.call).reply
+IsAnswered x = x.reply ≡ (effect_at doc history x.at x.call).reply
 
 abbrev IsHeld : ℕ → Placed → Type 0
 IsHeld n x = moves doc history x ≡ true → slice_get history x.at ≡ Some (n, x.call)

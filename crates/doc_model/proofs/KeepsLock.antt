@@ -15,7 +15,7 @@ use Rattle.doc_model.specs.declared.reply.Code.TheVariants as code
 use Rattle.doc_model.specs.rules.Apply.{by_kind}
 use Rattle.doc_model.specs.rules.Drawing.{draw}
 use Rattle.doc_model.specs.laws.Locks.{EndsExclusive, SetsExclusive, StaysExclusive, ByStep, KeepsExclusive}
-use Rattle.doc_model.specs.rules.LockSteps.{LockTurn, becomes, refuses, stays, lock_turn, lock_after, lock_moved, member}
+use Rattle.doc_model.specs.rules.LockSteps.{LockEffect, becomes, refuses, stays, lock_effect, lock_after, lock_moved, member}
 use Rattle.doc_model.specs.rules.Locks.{live, shared_by, is_live}
 use Rattle.doc_model.specs.rules.Puts.{put}
 use Rattle.doc_model.specs.rules.Versions.{restore}
@@ -48,13 +48,13 @@ module _ (id : Guid) (u m : ℕ) (l : LockRecord) (e : l ≡ Exclusive id u) whe
   abbrev Kept : LockStep → LockRecord → Type 0
   Kept s now = EndsExclusive id s ⊎ StaysExclusive id u (SetsExclusive id s) now
 
-  abbrev after : LockTurn → LockRecord
-  after turn = cond (lock_moved turn) (lock_after (Exclusive id u) turn) l
+  abbrev after : LockEffect → LockRecord
+  after effect = cond (lock_moved effect) (lock_after (Exclusive id u) effect) l
 
   same : (s : LockStep) → Kept s l
   same s = subst (λ (x : LockRecord). Kept s x) (sym e) (inr (refl, inl refl))
 
-  pub exclusive-kept : (s : LockStep) → Kept s (after (lock_turn m s (Exclusive id u)))
+  pub exclusive-kept : (s : LockStep) → Kept s (after (lock_effect m s (Exclusive id u)))
   exclusive-kept (step.TakeExclusive i t) =
       by-same id i (λ b. Kept (step.TakeExclusive i t) (after (cond b (becomes (Exclusive i (m + t))) (refuses code.AlreadyLocked))))
       (λ h. inr (h, inr h)) (same (step.TakeExclusive i t))
@@ -101,7 +101,7 @@ module _ (doc : Doc) (m : ℕ) (user : List ℕ) (id : Guid) (u : ℕ) (e : live
   kind-keeps sub.AmIAlone = as-before sub.AmIAlone doc.lock refl
   kind-keeps sub.WhoAmI = as-before sub.WhoAmI doc.lock refl
   kind-keeps (sub.Lock s) =
-      subst (λ (x : LockRecord). KeptBy (sub.Lock s) (cond (lock_moved (lock_turn m s x)) (lock_after x (lock_turn m s x)) doc.lock)) (sym e)
+      subst (λ (x : LockRecord). KeptBy (sub.Lock s) (cond (lock_moved (lock_effect m s x)) (lock_after x (lock_effect m s x)) doc.lock)) (sym e)
       (exclusive-kept id u m doc.lock is s)
 
 pub keeps-exclusive : KeepsExclusive

@@ -18,7 +18,7 @@ use Rattle.doc_model.specs.declared.reply.Code.TheVariants as code
 use Rattle.doc_model.specs.rules.Apply.{by_kind}
 use Rattle.doc_model.specs.rules.Drawing.{draw}
 use Rattle.doc_model.specs.laws.Locks.{EndsMember, SetsMember, IsStill, StaysMember, ByStep, KeepsMembers}
-use Rattle.doc_model.specs.rules.LockSteps.{LockTurn, becomes, refuses, stays, leaves, lock_turn, lock_after, lock_moved, member, is_client, others, with_client}
+use Rattle.doc_model.specs.rules.LockSteps.{LockEffect, becomes, refuses, stays, leaves, lock_effect, lock_after, lock_moved, member, is_client, others, with_client}
 use Rattle.doc_model.specs.rules.Locks.{live, shared_by, is_live}
 use Rattle.doc_model.specs.rules.Puts.{put}
 use Rattle.doc_model.specs.rules.Versions.{restore}
@@ -167,20 +167,20 @@ module _ (schema : Guid) (members : List Member) (m : ℕ) (l : LockRecord) (e :
         (λ x g. ⊎_elim (λ a. inl a) (λ a. absurd (any-none (Still x) (subst (λ (ms : List Member). There Still own ms x) (no_others (others client members) h) a))) g)
         (without client ends)
 
-  abbrev after : LockTurn → LockRecord
-  after turn = cond (lock_moved turn) (lock_after (Shared schema members) turn) l
+  abbrev after : LockEffect → LockRecord
+  after effect = cond (lock_moved effect) (lock_after (Shared schema members) effect) l
 
   -- on one's own schema id, and as a member of it
-  on-own : (s : LockStep) (sc : Guid) (own-turn : LockTurn) → (sc ≡ schema → AllKept s (after own-turn)) → AllKept s (after (cond (same_guid schema sc) own-turn (refuses code.AlreadyLocked)))
-  on-own s sc own-turn f = by-same schema sc (λ b. AllKept s (after (cond b own-turn (refuses code.AlreadyLocked)))) f (same s)
+  on-own : (s : LockStep) (sc : Guid) (own-effect : LockEffect) → (sc ≡ schema → AllKept s (after own-effect)) → AllKept s (after (cond (same_guid schema sc) own-effect (refuses code.AlreadyLocked)))
+  on-own s sc own-effect f = by-same schema sc (λ b. AllKept s (after (cond b own-effect (refuses code.AlreadyLocked)))) f (same s)
 
-  on-own-member : (s : LockStep) (sc client : Guid) (own-turn : LockTurn) → (sc ≡ schema → AllKept s (after own-turn))
-      → AllKept s (after (cond (same_guid schema sc) (cond (list_any (is_client client) members) own-turn (refuses code.NotLocked)) (refuses code.AlreadyLocked)))
-  on-own-member s sc client own-turn f =
-      on-own s sc (cond (list_any (is_client client) members) own-turn (refuses code.NotLocked))
-      (λ h. by-test (list_any (is_client client) members) (λ b. AllKept s (after (cond b own-turn (refuses code.NotLocked)))) (λ _. f h) (λ _. same s))
+  on-own-member : (s : LockStep) (sc client : Guid) (own-effect : LockEffect) → (sc ≡ schema → AllKept s (after own-effect))
+      → AllKept s (after (cond (same_guid schema sc) (cond (list_any (is_client client) members) own-effect (refuses code.NotLocked)) (refuses code.AlreadyLocked)))
+  on-own-member s sc client own-effect f =
+      on-own s sc (cond (list_any (is_client client) members) own-effect (refuses code.NotLocked))
+      (λ h. by-test (list_any (is_client client) members) (λ b. AllKept s (after (cond b own-effect (refuses code.NotLocked)))) (λ _. f h) (λ _. same s))
 
-  pub members-kept : (s : LockStep) → AllKept s (after (lock_turn m s (Shared schema members)))
+  pub members-kept : (s : LockStep) → AllKept s (after (lock_effect m s (Shared schema members)))
   members-kept (step.TakeExclusive i t) = same (step.TakeExclusive i t)
   members-kept (step.DropExclusive i) = same (step.DropExclusive i)
   members-kept (step.RefreshExclusive i t) = same (step.RefreshExclusive i t)
@@ -234,7 +234,7 @@ module _ (doc : Doc) (m : ℕ) (user : List ℕ) (schema : Guid) (members : List
   kind-keeps sub.AmIAlone = as-before sub.AmIAlone doc.lock refl
   kind-keeps sub.WhoAmI = as-before sub.WhoAmI doc.lock refl
   kind-keeps (sub.Lock s) =
-      subst (λ (x : LockRecord). KeptBy (sub.Lock s) (cond (lock_moved (lock_turn m s x)) (lock_after x (lock_turn m s x)) doc.lock)) (sym e)
+      subst (λ (x : LockRecord). KeptBy (sub.Lock s) (cond (lock_moved (lock_effect m s x)) (lock_after x (lock_effect m s x)) doc.lock)) (sym e)
       (members-kept schema members m doc.lock are s)
 
 pub keeps-members : KeepsMembers

@@ -25,7 +25,7 @@ use Rattle.doc_model.specs.rules.Limits.{most_added, most_added_weight, most_obj
 use Rattle.doc_model.specs.rules.Locks.{live, allowed}
 use Rattle.doc_model.specs.rules.Puts.{put, is_part, part_reasons, commit_reasons, kept, committed, sent_to, added_by, fresh, other_parts, has_invalid, too_many_parts}
 use Rattle.doc_model.specs.rules.Sound.{IsSoundElement, IsSoundCommit, AreSoundParts, AreSoundMembers, AreSoundEditors, Sound, IsValidSub}
-use Rattle.doc_model.specs.rules.Turns.{Turn, first_refusal, unless}
+use Rattle.doc_model.specs.rules.Effects.{Effect, first_refusal, unless}
 use Rattle.doc_model.specs.rules.Versions.{version, restore, restore_version, restore_reasons, restored, added_by_restore}
 use Rattle.doc_model.specs.rules.Weights.{objects_written, weight_of}
 use Rattle.doc_model.proofs.Distinct.{distinct-none}
@@ -39,15 +39,15 @@ use Rattle.doc_model.proofs.SoundRestore.{restored-sound}
 use Rattle.doc_model.proofs.SoundParts.{others-sound, parts-later, sent-few, with-part}
 use Rattle.doc_model.proofs.Reasons.{NoneHolds, and-both, none-holds, not-less, or-neither}
 
--- a turn by a test, and one that may be refused
-either : (b : Bool) (x y : Turn) → (b ≡ true → Sound x.doc) → Sound y.doc → Sound (cond b x y).doc
+-- an effect by a test, and one that may be refused
+either : (b : Bool) (x y : Effect) → (b ≡ true → Sound x.doc) → Sound y.doc → Sound (cond b x y).doc
 either b x y p q = at b refl
   where
     at : (c : Bool) → b ≡ c → Sound (cond c x y).doc
     at true e = p e
     at false e = q
 
-unless-refused : (reasons : List (Bool × Code)) (doc : Doc) (done : Turn) → Sound doc → (NoneHolds reasons → Sound done.doc) → Sound (unless (first_refusal reasons) doc done).doc
+unless-refused : (reasons : List (Bool × Code)) (doc : Doc) (done : Effect) → Sound doc → (NoneHolds reasons → Sound done.doc) → Sound (unless (first_refusal reasons) doc done).doc
 unless-refused reasons doc done s p = at (first_refusal reasons) refl
   where
     at : (o : Option Code) → first_refusal reasons ≡ o → Sound (unless o doc done).doc

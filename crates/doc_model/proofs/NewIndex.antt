@@ -22,7 +22,7 @@ use Rattle.doc_model.specs.rules.Locking.{do_lock}
 use Rattle.doc_model.specs.rules.Locks.{live, allowed}
 use Rattle.doc_model.specs.rules.Puts.{put, is_part, part_reasons, commit_reasons, kept, committed, sent_to, added_by}
 use Rattle.doc_model.specs.rules.Sound.{Sound}
-use Rattle.doc_model.specs.rules.Turns.{Turn, first_refusal, refused, unless}
+use Rattle.doc_model.specs.rules.Effects.{Effect, first_refusal, refused, unless}
 use Rattle.doc_model.specs.rules.Versions.{version, restore, restore_version, restore_reasons, restored, added_by_restore, new_index}
 use Rattle.doc_model.proofs.EachItem.{each-as, none-each}
 use Rattle.doc_model.proofs.Reasons.{NoneHolds, none-holds}
@@ -32,15 +32,15 @@ use Rattle.doc_model.proofs.SoundRestore.{none-committed}
 apart : (a b : ExGuid) → same_id a b ≡ false → a ≢ b
 apart a b h e = false≢true (sym h ∙ ap (λ (x : ExGuid). same_id x b) e ∙ same-id b)
 
--- a turn that adds a commit under a new index, where it changes the commits
-record AddsOne (doc : Doc) (turn : Turn) : Type 0 where
-  pub adds : turn.doc.commits ≢ doc.commits → (c : Commit) × (turn.doc.commits ≡ doc.commits ++ c ∷ []) × All (λ x. x.index ≢ c.index) doc.commits
+-- an effect that adds a commit under a new index, where it changes the commits
+record AddsOne (doc : Doc) (effect : Effect) : Type 0 where
+  pub adds : effect.doc.commits ≢ doc.commits → (c : Commit) × (effect.doc.commits ≡ doc.commits ++ c ∷ []) × All (λ x. x.index ≢ c.index) doc.commits
 
-same : (doc : Doc) (turn : Turn) → turn.doc.commits ≡ doc.commits → AddsOne doc turn
-same doc turn e = record { adds = λ ne. absurd (ne e) }
+same : (doc : Doc) (effect : Effect) → effect.doc.commits ≡ doc.commits → AddsOne doc effect
+same doc effect e = record { adds = λ ne. absurd (ne e) }
 
-one : (doc : Doc) (turn : Turn) (c : Commit) → turn.doc.commits ≡ doc.commits ++ c ∷ [] → Each (λ x. same_id x.index c.index ≡ false) doc.commits → AddsOne doc turn
-one doc turn c e h = record {
+one : (doc : Doc) (effect : Effect) (c : Commit) → effect.doc.commits ≡ doc.commits ++ c ∷ [] → Each (λ x. same_id x.index c.index ≡ false) doc.commits → AddsOne doc effect
+one doc effect c e h = record {
   adds = λ ne. (
     c,
     e,
@@ -49,11 +49,11 @@ one doc turn c e h = record {
   );
 }
 
-either : (doc : Doc) (b : Bool) (x y : Turn) → AddsOne doc x → AddsOne doc y → AddsOne doc (cond b x y)
+either : (doc : Doc) (b : Bool) (x y : Effect) → AddsOne doc x → AddsOne doc y → AddsOne doc (cond b x y)
 either doc true x y p q = p
 either doc false x y p q = q
 
-unless-refused : (reasons : List (Bool × Code)) (doc : Doc) (done : Turn) → (NoneHolds reasons → AddsOne doc done) → AddsOne doc (unless (first_refusal reasons) doc done)
+unless-refused : (reasons : List (Bool × Code)) (doc : Doc) (done : Effect) → (NoneHolds reasons → AddsOne doc done) → AddsOne doc (unless (first_refusal reasons) doc done)
 unless-refused reasons doc done p = at (first_refusal reasons) refl
   where
     at : (o : Option Code) → first_refusal reasons ≡ o → AddsOne doc (unless o doc done)

@@ -13,7 +13,7 @@ use Rattle.doc_model.specs.declared.reply.Code.{Code}
 use Rattle.doc_model.specs.laws.Documents.{ExpectsStored, CommitsOnStored, OneCommitOfIndex}
 use Rattle.doc_model.specs.rules.Pulls.{stored_index}
 use Rattle.doc_model.specs.rules.Puts.{put, is_part, part_refusal, commit_refusal, kept, committed, is_expected, commit_reasons, sent_to, added_by}
-use Rattle.doc_model.specs.rules.Turns.{Turn, unless}
+use Rattle.doc_model.specs.rules.Effects.{Effect, unless}
 use Rattle.doc_model.proofs.Reasons.{and-both, none-holds, not-false, or-either}
 
 no_commits : (cs : List Commit) → (length cs == 0) ≡ true → cs ≡ []
@@ -27,7 +27,7 @@ expects doc p l h = ⊎_elim
     (or-either (p.last_writer_wins || same_id p.expected (stored_index doc.commits)) (p.imply_null && length doc.commits == 0) h)
 
 -- where a put changes the commits, nothing refused the commit
-accepted : (part : Bool) (o q : Option Code) (doc : Doc) (k d : Turn) → k.doc.commits ≡ doc.commits
+accepted : (part : Bool) (o q : Option Code) (doc : Doc) (k d : Effect) → k.doc.commits ≡ doc.commits
     → (cond part (unless o doc k) (unless q doc d)).doc.commits ≢ doc.commits → q ≡ None
 accepted true None q doc k d e ne = absurd (ne e)
 accepted true (Some c) q doc k d e ne = absurd (ne refl)

@@ -7,7 +7,7 @@ use Rattle.std.proofs.lemmas.List.Elements.{All-from_recursion, recursion_from_A
 use Rattle.doc_model.specs.declared.call.Call.{Call}
 use Rattle.doc_model.specs.declared.doc.Doc.{Doc}
 use Rattle.doc_model.specs.rules.Apply.{apply, replay}
-use Rattle.doc_model.specs.rules.Histories.{History, EachMoves, Placed, Stands, moves, turn_at}
+use Rattle.doc_model.specs.rules.Histories.{History, EachMoves, Placed, Stands, moves, effect_at}
 use Rattle.doc_model.specs.laws.Histories.{Ran, Runs, AreAt, AreCallers, OneThread, calls_of, changes_of, ran_by}
 use Rattle.doc_model.proofs.EachItem.{each-append, each-as, each-both, each-filter, each-flat-map, each-mapped, each-passes}
 use Rattle.doc_model.proofs.Merging.{changed, still, is_still}
@@ -71,18 +71,18 @@ module _ (doc : Doc) (history : History) where
   here k = replay doc (take k history)
 
   -- of a caller's calls those that stand at a place and don't move are read there
-  read-there : (k : ℕ) (n : ℕ) (x : Placed) → x.reply ≡ (turn_at doc history x.at x.call).reply → is_still (moves doc history) k x ≡ true → IsRead k (here k) (ran_by n x)
+  read-there : (k : ℕ) (n : ℕ) (x : Placed) → x.reply ≡ (effect_at doc history x.at x.call).reply → is_still (moves doc history) k x ≡ true → IsRead k (here k) (ran_by n x)
   read-there k n x r e =
       let parts = and_parts (x.at == k) (not (moves doc history x)) e in
       let at = eqb-true x.at k parts.0 in record {
         at = at;
-        reply = r ∙ ap (λ (j : ℕ). (turn_at doc history j x.call).reply) at;
-        still = sym (ap (λ (j : ℕ). (turn_at doc history j x.call).moved) at) ∙ not-true (moves doc history x) parts.1;
+        reply = r ∙ ap (λ (j : ℕ). (effect_at doc history j x.call).reply) at;
+        still = sym (ap (λ (j : ℕ). (effect_at doc history j x.call).moved) at) ∙ not-true (moves doc history x) parts.1;
       }
 
   each-read : (k n : ℕ) (mine : List Placed) → Stands doc history n mine → Each (IsRead k (here k)) (map (ran_by n) (still (moves doc history) k mine))
   each-read k n mine s =
-      let replied : Placed → Type 0 = λ x. x.reply ≡ (turn_at doc history x.at x.call).reply in
+      let replied : Placed → Type 0 = λ x. x.reply ≡ (effect_at doc history x.at x.call).reply in
       let passes : Placed → Type 0 = λ x. is_still (moves doc history) k x ≡ true in
       let there = still (moves doc history) k mine in
       each-mapped (IsRead k (here k)) (ran_by n) there

@@ -10,14 +10,14 @@ use Rattle.doc_model.specs.declared.reply.Code.TheVariants.{AlreadyLocked}
 use Rattle.doc_model.specs.rules.Drawing.{can_draw, draw}
 use Rattle.doc_model.specs.rules.Locks.{live, allowed}
 use Rattle.doc_model.specs.rules.Puts.{put, is_part, part_refusal, commit_refusal, kept, committed}
-use Rattle.doc_model.specs.rules.Turns.{Turn, refused, unless}
+use Rattle.doc_model.specs.rules.Effects.{Effect, refused, unless}
 use Rattle.doc_model.specs.rules.Versions.{version, restore, restore_version, restore_refusal, restored}
 
-chosen : (b : Bool) (x y : Turn) (l : LockRecord) → x.doc.lock ≡ l → y.doc.lock ≡ l → (cond b x y).doc.lock ≡ l
+chosen : (b : Bool) (x y : Effect) (l : LockRecord) → x.doc.lock ≡ l → y.doc.lock ≡ l → (cond b x y).doc.lock ≡ l
 chosen true x y l p q = p
 chosen false x y l p q = q
 
-unless-lock : (o : Option Code) (doc : Doc) (done : Turn) → done.doc.lock ≡ doc.lock → (unless o doc done).doc.lock ≡ doc.lock
+unless-lock : (o : Option Code) (doc : Doc) (done : Effect) → done.doc.lock ≡ doc.lock → (unless o doc done).doc.lock ≡ doc.lock
 unless-lock None doc done e = e
 unless-lock (Some c) doc done e = refl
 

@@ -7,7 +7,7 @@ use Rattle.std.proofs.lemmas.Option.{slice_get_within}
 use Rattle.doc_model.specs.declared.call.Call.{Call}
 use Rattle.doc_model.specs.declared.doc.Doc.{Doc}
 use Rattle.doc_model.specs.rules.Apply.{apply, replay}
-use Rattle.doc_model.specs.rules.Histories.{History, Placed, GoOn, Stands, calls_by, moved_calls, moves, turn_at}
+use Rattle.doc_model.specs.rules.Histories.{History, Placed, GoOn, Stands, calls_by, moved_calls, moves, effect_at}
 use Rattle.doc_model.specs.laws.Histories.{Ran, ran_by}
 use Rattle.doc_model.proofs.Merging.{changed, merged, merged-still, merged-later, merged-moved, go-on-before, go-on-behind}
 use Rattle.doc_model.proofs.Places.{IsAt, first-place, next-place, call-at, last-place}
@@ -29,7 +29,7 @@ module _ (moved : Placed → Bool) where
 -- what is said of each call that stands in a history
 pub record IsPlaced (doc : Doc) (history : History) (moved : Placed → Bool) (n : ℕ) (x : Placed) : Type 0 where
   pub within : x.at ≤ length history
-  pub reply : x.reply ≡ (turn_at doc history x.at x.call).reply
+  pub reply : x.reply ≡ (effect_at doc history x.at x.call).reply
   pub held : moved x ≡ true → slice_get history x.at ≡ Some (n, x.call)
 
 -- No more of the calls moved than are left under the number. Where they are as many, the merged ones are just these calls.
@@ -66,7 +66,7 @@ module _ (doc : Doc) (history : History) (moved : Placed → Bool) (n : ℕ) whe
 
   -- the first one is the change
   same-change : (x : Placed) (k : ℕ) (d : Doc) (item : ℕ × Call) → d ≡ replay doc (take k history) → x.at ≡ k → item ≡ (n, x.call)
-      → x.reply ≡ (turn_at doc history x.at x.call).reply → changed k d item ≡ ran_by n x
+      → x.reply ≡ (effect_at doc history x.at x.call).reply → changed k d item ≡ ran_by n x
   same-change x k d item p e i r =
       ap (λ (y : ℕ × Call). changed k d y) i
       ∙ ap (λ (y : Doc). changed k y (n, x.call)) (p ∙ sym (ap (λ (j : ℕ). replay doc (take j history)) e))

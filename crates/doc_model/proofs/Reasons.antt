@@ -2,7 +2,7 @@
 use Rattle.std.proofs.Common.{◌≡◌, ◌⊎◌, ℕ, ◌≤◌, refl, Bool, true, false, not, ◌&&◌, ◌||◌, List, [], ◌∷◌, None, nat_lt, inl, inr, arith}
 use Rattle.std.proofs.lemmas.Bool.Decides.{nat_tests}
 use Rattle.doc_model.specs.declared.reply.Code.{Code}
-use Rattle.doc_model.specs.rules.Turns.{first_refusal}
+use Rattle.doc_model.specs.rules.Effects.{first_refusal}
 
 -- none of the reasons holds
 abbrev pub NoneHolds : List (Bool × Code) → Type 0

@@ -14,27 +14,27 @@ use Rattle.doc_model.specs.declared.reply.Reply.TheVariants as reply
 use Rattle.doc_model.specs.rules.Apply.{by_kind}
 use Rattle.doc_model.specs.rules.Drawing.{draw, can_draw}
 use Rattle.doc_model.specs.rules.Editing as editing
-use Rattle.doc_model.specs.rules.Editing.{after_edit, editor_turn, live_editors}
+use Rattle.doc_model.specs.rules.Editing.{after_edit, editor_effect, live_editors}
 use Rattle.doc_model.specs.laws.Documents.{RefusedStays}
 use Rattle.doc_model.specs.rules.Locking.{after_lock}
 use Rattle.doc_model.specs.rules.Locks.{live, allowed}
-use Rattle.doc_model.specs.rules.LockSteps.{LockTurn, becomes, stays, refuses, leaves, lock_turn, tells_lock, lock_kind, coauthors_of}
+use Rattle.doc_model.specs.rules.LockSteps.{LockEffect, becomes, stays, refuses, leaves, lock_effect, tells_lock, lock_kind, coauthors_of}
 use Rattle.doc_model.specs.rules.Puts.{put, is_part, part_refusal, commit_refusal, kept, committed}
-use Rattle.doc_model.specs.rules.Turns.{Turn, unless, refused}
+use Rattle.doc_model.specs.rules.Effects.{Effect, unless, refused}
 use Rattle.doc_model.specs.rules.Versions.{version, restore, restore_version, restore_refusal, restored}
 
--- a turn that stays where it refuses
-record Refuses (turn : Turn) : Type 0 where
-  pub stays : (c : Code) → turn.reply ≡ reply.Refused c → c ≢ LeftOnFailedConversion → turn.moved ≡ false
+-- an effect that stays where it refuses
+record Refuses (effect : Effect) : Type 0 where
+  pub stays : (c : Code) → effect.reply ≡ reply.Refused c → c ≢ LeftOnFailedConversion → effect.moved ≡ false
 
-staying : (turn : Turn) → turn.moved ≡ false → Refuses turn
-staying turn m = record { stays = λ c h n. m }
+staying : (effect : Effect) → effect.moved ≡ false → Refuses effect
+staying effect m = record { stays = λ c h n. m }
 
-either : (b : Bool) (x y : Turn) → Refuses x → Refuses y → Refuses (cond b x y)
+either : (b : Bool) (x y : Effect) → Refuses x → Refuses y → Refuses (cond b x y)
 either true x y p q = p
 either false x y p q = q
 
-unless-refused : (doc : Doc) (o : Option Code) (done : Turn) → Refuses done → Refuses (unless o doc done)
+unless-refused : (doc : Doc) (o : Option Code) (done : Effect) → Refuses done → Refuses (unless o doc done)
 unless-refused doc None done p = p
 unless-refused doc (Some c) done p = staying (refused doc c) refl
 
@@ -52,7 +52,7 @@ not-refused guid step after c false h = cc
 left : (c : Code) → reply.Refused LeftOnFailedConversion ≡ reply.Refused c → c ≡ LeftOnFailedConversion
 left c h = cc
 
-lock-refuses : (doc : Doc) (m : ℕ) (step : LockStep) (turn : LockTurn) → Refuses (after_lock doc m step turn)
+lock-refuses : (doc : Doc) (m : ℕ) (step : LockStep) (effect : LockEffect) → Refuses (after_lock doc m step effect)
 lock-refuses doc m step (becomes new) = record { stays = λ c h n. not-refused doc.guid step new c (tells_lock step) h }
 lock-refuses doc m step stays = staying (after_lock doc m step stays) refl
 lock-refuses doc m step (refuses c) = staying (after_lock doc m step (refuses c)) refl
@@ -61,7 +61,7 @@ lock-refuses doc m step (leaves new) = record { stays = λ c h n. absurd (n (lef
 draw-refuses : (doc : Doc) (n : ℕ) → Refuses (draw doc n)
 draw-refuses doc n = either (can_draw doc n) _ _ (record { stays = λ c h n. cc }) (record { stays = λ c h n. refl })
 
-edit-refuses : (doc : Doc) (m : ℕ) (turn : editing.EditorTurn) → Refuses (after_edit doc m turn)
+edit-refuses : (doc : Doc) (m : ℕ) (effect : editing.EditorEffect) → Refuses (after_edit doc m effect)
 edit-refuses doc m (editing.becomes new) = record { stays = λ c h n. cc }
 edit-refuses doc m editing.stays = staying (after_edit doc m editing.stays) refl
 edit-refuses doc m (editing.refuses c) = staying (after_edit doc m (editing.refuses c)) refl
@@ -79,8 +79,8 @@ kind-refuses doc m user sub.Access = record { stays = λ c h n. refl }
 kind-refuses doc m user (sub.Pull known) = record { stays = λ c h n. refl }
 kind-refuses doc m user (sub.Put p) = put-refuses doc m user p
 kind-refuses doc m user (sub.Draw n) = draw-refuses doc n
-kind-refuses doc m user (sub.Lock step) = lock-refuses doc m step (lock_turn m step (live doc.lock m))
-kind-refuses doc m user (sub.Editor step) = edit-refuses doc m (editor_turn m user step (live_editors doc.editors m))
+kind-refuses doc m user (sub.Lock step) = lock-refuses doc m step (lock_effect m step (live doc.lock m))
+kind-refuses doc m user (sub.Editor step) = edit-refuses doc m (editor_effect m user step (live_editors doc.editors m))
 kind-refuses doc m user sub.Versions = record { stays = λ c h n. refl }
 kind-refuses doc m user (sub.Restore number carried) = restore-refuses doc m user number carried
 kind-refuses doc m user sub.ReadFile = record { stays = λ c h n. refl }

@@ -12,7 +12,7 @@ use Rattle.doc_model.specs.laws.Documents.{AllNamed, Restores, RestoresTheFile}
 use Rattle.doc_model.specs.rules.Locks.{live, allowed}
 use Rattle.doc_model.specs.rules.Reached.{names}
 use Rattle.doc_model.specs.rules.Sound.{IsSoundCommit, Sound}
-use Rattle.doc_model.specs.rules.Turns.{Turn, refused, unless}
+use Rattle.doc_model.specs.rules.Effects.{Effect, refused, unless}
 use Rattle.doc_model.specs.rules.Versions.{restore_version, restore_refusal, restored, added_by_restore, index_like, new_index}
 use Rattle.doc_model.proofs.Added.{file-stays, names-stay}
 use Rattle.doc_model.proofs.LastCommit.{All-version, stored-push}
@@ -20,21 +20,21 @@ use Rattle.doc_model.proofs.LikeIndex.{below-like, file-like}
 use Rattle.doc_model.proofs.SoundCommits.{reached-named}
 use Rattle.doc_model.proofs.SoundRestore.{maps-like}
 
--- a turn that leads there, where it moves
-record LeadsTo (P : Doc → Type 0) (turn : Turn) : Type 0 where
-  pub leads : turn.moved ≡ true → P turn.doc
+-- an effect that leads there, where it moves
+record LeadsTo (P : Doc → Type 0) (effect : Effect) : Type 0 where
+  pub leads : effect.moved ≡ true → P effect.doc
 
-staying : (P : Doc → Type 0) (turn : Turn) → turn.moved ≡ false → LeadsTo P turn
-staying P turn e = record { leads = λ h. cc }
+staying : (P : Doc → Type 0) (effect : Effect) → effect.moved ≡ false → LeadsTo P effect
+staying P effect e = record { leads = λ h. cc }
 
-moving : (P : Doc → Type 0) (turn : Turn) → P turn.doc → LeadsTo P turn
-moving P turn p = record { leads = λ h. p }
+moving : (P : Doc → Type 0) (effect : Effect) → P effect.doc → LeadsTo P effect
+moving P effect p = record { leads = λ h. p }
 
-either : (P : Doc → Type 0) (b : Bool) (x y : Turn) → LeadsTo P x → LeadsTo P y → LeadsTo P (cond b x y)
+either : (P : Doc → Type 0) (b : Bool) (x y : Effect) → LeadsTo P x → LeadsTo P y → LeadsTo P (cond b x y)
 either P true x y p q = p
 either P false x y p q = q
 
-unless-refused : (P : Doc → Type 0) (o : Option Code) (doc : Doc) (done : Turn) → LeadsTo P done → LeadsTo P (unless o doc done)
+unless-refused : (P : Doc → Type 0) (o : Option Code) (doc : Doc) (done : Effect) → LeadsTo P done → LeadsTo P (unless o doc done)
 unless-refused P None doc done p = p
 unless-refused P (Some c) doc done p = staying P (refused doc c) refl
 

@@ -11,7 +11,7 @@ use Rattle.doc_model.specs.declared.editor.Editor.{Editor}
 use Rattle.doc_model.specs.declared.editor.EditorStep.{EditorStep}
 use Rattle.doc_model.specs.declared.editor.EditorStep.TheVariants.{Join, Leave, Refresh, SetKey, RemoveKey}
 use Rattle.doc_model.specs.declared.editor.Entry.{Entry}
-use Rattle.doc_model.specs.rules.Editing.{EditorTurn, becomes, stays, refuses, edited, editor_turn, editors_after, editors_moved, entry, finds_no_place, is_editor, is_key, is_live_editor, is_long, join, live_editors, new_editor, on_editor, on_found, other_editors, remove_key, renewed, set_key, with_editor, with_entry, without_key}
+use Rattle.doc_model.specs.rules.Editing.{EditorEffect, becomes, stays, refuses, edited, editor_effect, editors_after, editors_moved, entry, finds_no_place, is_editor, is_key, is_live_editor, is_long, join, live_editors, new_editor, on_editor, on_found, other_editors, remove_key, renewed, set_key, with_editor, with_entry, without_key}
 use Rattle.doc_model.specs.rules.Limits.{most_editors, most_keys}
 use Rattle.doc_model.specs.rules.Sound.{AreSoundEditors}
 use Rattle.doc_model.proofs.Distinct.{distinct-filter, distinct-none}
@@ -129,24 +129,24 @@ without-key-keys key xs s = (
   distinct-filter bytes_eq (λ x. x.key) (λ x. not (is_key key x)) xs s.1,
 )
 
--- a turn whose new editors are sound
-abbrev TurnSound : EditorTurn → Type 0
-TurnSound (becomes new) = AreSoundEditors new
-TurnSound stays = Unit {0}
-TurnSound (refuses c) = Unit {0}
+-- an effect whose new editors are sound
+abbrev EffectSound : EditorEffect → Type 0
+EffectSound (becomes new) = AreSoundEditors new
+EffectSound stays = Unit {0}
+EffectSound (refuses c) = Unit {0}
 
-choose : (b : Bool) (x y : EditorTurn) → (b ≡ true → TurnSound x) → (b ≡ false → TurnSound y) → TurnSound (cond b x y)
+choose : (b : Bool) (x y : EditorEffect) → (b ≡ true → EffectSound x) → (b ≡ false → EffectSound y) → EffectSound (cond b x y)
 choose b x y p q = at b refl
   where
-    at : (c : Bool) → b ≡ c → TurnSound (cond c x y)
+    at : (c : Bool) → b ≡ c → EffectSound (cond c x y)
     at true e = p e
     at false e = q e
 
-on-editor-sound : (client : Guid) (editors : List Editor) (own : Editor → EditorTurn) → ((e : Editor) → find (is_editor client) editors ≡ Some e → TurnSound (own e))
-    → TurnSound (on_editor client editors own)
+on-editor-sound : (client : Guid) (editors : List Editor) (own : Editor → EditorEffect) → ((e : Editor) → find (is_editor client) editors ≡ Some e → EffectSound (own e))
+    → EffectSound (on_editor client editors own)
 on-editor-sound client editors own q = at (find (is_editor client) editors) q
   where
-    at : (o : Option Editor) → ((e : Editor) → o ≡ Some e → TurnSound (own e)) → TurnSound (on_found o own)
+    at : (o : Option Editor) → ((e : Editor) → o ≡ Some e → EffectSound (own e)) → EffectSound (on_found o own)
     at None h = tt
     at (Some e) h = h e refl
 
@@ -158,41 +158,41 @@ module _ (editors : List Editor) (s : AreSoundEditors editors) where
   found-keys : (client : Guid) (e : Editor) → find (is_editor client) editors ≡ Some e → HasKeys e
   found-keys client e f = each-found HasKeys (is_editor client) editors e (keys-of editors s) f
 
-  join-sound : (client : Guid) (user : List ℕ) (until : ℕ) → TurnSound (join client user until editors)
+  join-sound : (client : Guid) (user : List ℕ) (until : ℕ) → EffectSound (join client user until editors)
   join-sound client user until =
       choose (nat_lt (length (other_editors client editors)) most_editors) _ _
       (λ h. with-sound client user until editors s (less (length (other_editors client editors)) most_editors h)) (λ h. tt)
 
-  set-key-sound : (client : Guid) (key value : List ℕ) (e : Editor) → find (is_editor client) editors ≡ Some e → TurnSound (set_key client key value editors e)
+  set-key-sound : (client : Guid) (key value : List ℕ) (e : Editor) → find (is_editor client) editors ≡ Some e → EffectSound (set_key client key value editors e)
   set-key-sound client key value e f =
       choose (is_long (encode_utf8_all key) || is_long value) _ _ (λ h. tt)
       (λ h. choose (finds_no_place key e.entries) _ _ (λ g. tt)
       (λ g. edited-sound client (λ x. record x { entries = with_entry key value x.entries }) (λ x. refl) editors e s f
       (with-entry-keys key value e.entries (found-keys client e f) g)))
 
-  remove-key-sound : (client : Guid) (key : List ℕ) (e : Editor) → find (is_editor client) editors ≡ Some e → TurnSound (remove_key client key editors e)
+  remove-key-sound : (client : Guid) (key : List ℕ) (e : Editor) → find (is_editor client) editors ≡ Some e → EffectSound (remove_key client key editors e)
   remove-key-sound client key e f =
       choose (list_any (is_key key) e.entries) _ _
       (λ h. edited-sound client (λ x. record x { entries = without_key key x.entries }) (λ x. refl) editors e s f
       (without-key-keys key e.entries (found-keys client e f))) (λ h. tt)
 
-  turn-sound : (m : ℕ) (user : List ℕ) (step : EditorStep) → TurnSound (editor_turn m user step editors)
-  turn-sound m user (Join client t) = join-sound client user (m + t)
-  turn-sound m user (Leave client) = on-editor-sound client editors _ (λ e f. filter-sound (λ x. not (is_editor client x)) editors s)
-  turn-sound m user (Refresh client t) =
+  effect-sound : (m : ℕ) (user : List ℕ) (step : EditorStep) → EffectSound (editor_effect m user step editors)
+  effect-sound m user (Join client t) = join-sound client user (m + t)
+  effect-sound m user (Leave client) = on-editor-sound client editors _ (λ e f. filter-sound (λ x. not (is_editor client x)) editors s)
+  effect-sound m user (Refresh client t) =
       on-editor-sound client editors _ (λ e f. edited-sound client (λ x. record x { until = m + t }) (λ x. refl) editors e s f (found-keys client e f))
-  turn-sound m user (SetKey client key value) = on-editor-sound client editors (set_key client key value editors) (set-key-sound client key value)
-  turn-sound m user (RemoveKey client key) = on-editor-sound client editors (remove_key client key editors) (remove-key-sound client key)
+  effect-sound m user (SetKey client key value) = on-editor-sound client editors (set_key client key value editors) (set-key-sound client key value)
+  effect-sound m user (RemoveKey client key) = on-editor-sound client editors (remove_key client key editors) (remove-key-sound client key)
 
-editors-after : (old live : List Editor) (turn : EditorTurn) → AreSoundEditors old → TurnSound turn → AreSoundEditors (cond (editors_moved turn) (editors_after live turn) old)
+editors-after : (old live : List Editor) (effect : EditorEffect) → AreSoundEditors old → EffectSound effect → AreSoundEditors (cond (editors_moved effect) (editors_after live effect) old)
 editors-after old live (becomes new) s t = t
 editors-after old live stays s t = s
 editors-after old live (refuses c) s t = s
 
 pub editors-sound : (editors : List Editor) (moment : ℕ) (user : List ℕ) (step : EditorStep) → AreSoundEditors editors
     → AreSoundEditors
-    (cond (editors_moved (editor_turn moment user step (live_editors editors moment)))
-    (editors_after (live_editors editors moment) (editor_turn moment user step (live_editors editors moment))) editors)
+    (cond (editors_moved (editor_effect moment user step (live_editors editors moment)))
+    (editors_after (live_editors editors moment) (editor_effect moment user step (live_editors editors moment))) editors)
 editors-sound editors moment user step s =
     let live = live_editors editors moment in
-    editors-after editors live (editor_turn moment user step live) s (turn-sound live (filter-sound (is_live_editor moment) editors s) moment user step)
+    editors-after editors live (editor_effect moment user step live) s (effect-sound live (filter-sound (is_live_editor moment) editors s) moment user step)

@@ -12,7 +12,7 @@ use Rattle.doc_model.specs.declared.lock.LockStep.TheVariants.{TakeExclusive, Dr
 use Rattle.doc_model.specs.declared.lock.Member.{Member}
 use Rattle.doc_model.specs.rules.Limits.{most_sharing}
 use Rattle.doc_model.specs.rules.Locks.{is_live, live, shared_by}
-use Rattle.doc_model.specs.rules.LockSteps.{LockTurn, becomes, stays, refuses, leaves, on_exclusive, on_shared, on_member, is_client, others, member, with_client, lock_turn, lock_after, lock_moved}
+use Rattle.doc_model.specs.rules.LockSteps.{LockEffect, becomes, stays, refuses, leaves, on_exclusive, on_shared, on_member, is_client, others, member, with_client, lock_effect, lock_after, lock_moved}
 use Rattle.doc_model.specs.rules.Sound.{AreSoundMembers}
 use Rattle.doc_model.proofs.Distinct.{distinct-filter, distinct-one}
 use Rattle.doc_model.proofs.SoundParts.{length-filter}
@@ -86,33 +86,33 @@ module _ (client : Guid) (until : ℕ) (coauthor : Bool) where
   few-there : (members : List Member) → FewOnce members → list_any (is_client client) members ≡ true → FewOnce (with' members)
   few-there members s there = (omega (arith, s.0, length-there members there), distinct-with members s.1)
 
--- a turn whose new lock has sound members
-abbrev TurnSound : LockTurn → Type 0
-TurnSound (becomes new) = AreSoundMembers new
-TurnSound stays = Unit {0}
-TurnSound (refuses c) = Unit {0}
-TurnSound (leaves new) = AreSoundMembers new
+-- an effect whose new lock has sound members
+abbrev EffectSound : LockEffect → Type 0
+EffectSound (becomes new) = AreSoundMembers new
+EffectSound stays = Unit {0}
+EffectSound (refuses c) = Unit {0}
+EffectSound (leaves new) = AreSoundMembers new
 
-choose : (b : Bool) (x y : LockTurn) → (b ≡ true → TurnSound x) → TurnSound y → TurnSound (cond b x y)
+choose : (b : Bool) (x y : LockEffect) → (b ≡ true → EffectSound x) → EffectSound y → EffectSound (cond b x y)
 choose b x y p q = at b refl
   where
-    at : (c : Bool) → b ≡ c → TurnSound (cond c x y)
+    at : (c : Bool) → b ≡ c → EffectSound (cond c x y)
     at true e = p e
     at false e = q
 
-exclusive-sound : (id : Guid) (lock : LockRecord) (free own : LockTurn) → TurnSound free → TurnSound own → TurnSound (on_exclusive id lock free own)
+exclusive-sound : (id : Guid) (lock : LockRecord) (free own : LockEffect) → EffectSound free → EffectSound own → EffectSound (on_exclusive id lock free own)
 exclusive-sound id Free free own p q = p
 exclusive-sound id (Exclusive held until) free own p q = choose (same_guid held id) own _ (λ e. q) tt
 exclusive-sound id (Shared schema members) free own p q = tt
 
-on-shared-sound : (schema : Guid) (lock : LockRecord) (free : LockTurn) (own : List Member → LockTurn) → AreSoundMembers lock → TurnSound free
-    → ((members : List Member) → FewOnce members → TurnSound (own members)) → TurnSound (on_shared schema lock free own)
+on-shared-sound : (schema : Guid) (lock : LockRecord) (free : LockEffect) (own : List Member → LockEffect) → AreSoundMembers lock → EffectSound free
+    → ((members : List Member) → FewOnce members → EffectSound (own members)) → EffectSound (on_shared schema lock free own)
 on-shared-sound schema Free free own s p q = p
 on-shared-sound schema (Exclusive held until) free own s p q = tt
 on-shared-sound schema (Shared held members) free own s p q = choose (same_guid held schema) (own members) _ (λ e. q members s) tt
 
-on-member-sound : (schema client : Guid) (lock : LockRecord) (own : List Member → LockTurn) → AreSoundMembers lock
-    → ((members : List Member) → FewOnce members → list_any (is_client client) members ≡ true → TurnSound (own members)) → TurnSound (on_member schema client lock own)
+on-member-sound : (schema client : Guid) (lock : LockRecord) (own : List Member → LockEffect) → AreSoundMembers lock
+    → ((members : List Member) → FewOnce members → list_any (is_client client) members ≡ true → EffectSound (own members)) → EffectSound (on_member schema client lock own)
 on-member-sound schema client lock own s q =
     on-shared-sound schema lock _ _ s tt (λ members f. choose (list_any (is_client client) members) (own members) _ (λ e. q members f e) tt)
 
@@ -126,32 +126,32 @@ without : (client : Guid) (members : List Member) → FewOnce members → FewOnc
 without client members s = few-filter (λ x. not (is_client client x)) members s
 
 -- each step on a lock whose members are sound
-turn-sound : (m : ℕ) (step : LockStep) (lock : LockRecord) → AreSoundMembers lock → TurnSound (lock_turn m step lock)
-turn-sound m (TakeExclusive id t) lock s = exclusive-sound id lock _ _ tt tt
-turn-sound m (DropExclusive id) lock s = exclusive-sound id lock _ _ tt tt
-turn-sound m (RefreshExclusive id t) lock s = exclusive-sound id lock _ _ tt tt
-turn-sound m (CheckExclusive id) lock s = exclusive-sound id lock _ _ tt tt
-turn-sound m (ToShared id schema client t coauthor) lock s = exclusive-sound id lock _ _ tt (alone (member client (m + t) coauthor))
-turn-sound m (TakeShared schema client t coauthor) lock s =
+effect-sound : (m : ℕ) (step : LockStep) (lock : LockRecord) → AreSoundMembers lock → EffectSound (lock_effect m step lock)
+effect-sound m (TakeExclusive id t) lock s = exclusive-sound id lock _ _ tt tt
+effect-sound m (DropExclusive id) lock s = exclusive-sound id lock _ _ tt tt
+effect-sound m (RefreshExclusive id t) lock s = exclusive-sound id lock _ _ tt tt
+effect-sound m (CheckExclusive id) lock s = exclusive-sound id lock _ _ tt tt
+effect-sound m (ToShared id schema client t coauthor) lock s = exclusive-sound id lock _ _ tt (alone (member client (m + t) coauthor))
+effect-sound m (TakeShared schema client t coauthor) lock s =
     on-shared-sound schema lock _ _ s (alone (member client (m + t) coauthor))
     (λ members f. choose (nat_lt (length (others client members)) 64) _ _ (λ e. few-with client (m + t) coauthor members f (less (length (others client members)) 64 e)) tt)
-turn-sound m (DropShared schema client) lock s =
+effect-sound m (DropShared schema client) lock s =
     on-member-sound schema client lock _ s (λ members f there. shared-sound schema (others client members) (without client members f))
-turn-sound m (RefreshShared schema client t) lock s = on-member-sound schema client lock _ s (λ members f there. few-there client (m + t) false members f there)
-turn-sound m (ToExclusive schema client id t release) lock s =
+effect-sound m (RefreshShared schema client t) lock s = on-member-sound schema client lock _ s (λ members f there. few-there client (m + t) false members f there)
+effect-sound m (ToExclusive schema client id t release) lock s =
     on-member-sound schema client lock _ s
     (λ members f there. choose (length (others client members) == 0) _ _ (λ e. tt) (choose release _ _ (λ e. without client members f) tt))
-turn-sound m (CheckShared schema) lock s = on-shared-sound schema lock _ _ s tt (λ members f. tt)
-turn-sound m (Status schema client) lock s = on-member-sound schema client lock _ s (λ members f there. tt)
-turn-sound m (Mark schema client) lock s = on-member-sound schema client lock _ s (λ members f there. tt)
+effect-sound m (CheckShared schema) lock s = on-shared-sound schema lock _ _ s tt (λ members f. tt)
+effect-sound m (Status schema client) lock s = on-member-sound schema client lock _ s (λ members f there. tt)
+effect-sound m (Mark schema client) lock s = on-member-sound schema client lock _ s (λ members f there. tt)
 
-members-after : (old lock : LockRecord) (turn : LockTurn) → AreSoundMembers old → TurnSound turn → AreSoundMembers (cond (lock_moved turn) (lock_after lock turn) old)
+members-after : (old lock : LockRecord) (effect : LockEffect) → AreSoundMembers old → EffectSound effect → AreSoundMembers (cond (lock_moved effect) (lock_after lock effect) old)
 members-after old lock (becomes new) s t = t
 members-after old lock stays s t = s
 members-after old lock (refuses c) s t = s
 members-after old lock (leaves new) s t = t
 
 pub lock-sound : (lock : LockRecord) (moment : ℕ) (step : LockStep) → AreSoundMembers lock
-    → AreSoundMembers (cond (lock_moved (lock_turn moment step (live lock moment))) (lock_after (live lock moment) (lock_turn moment step (live lock moment))) lock)
+    → AreSoundMembers (cond (lock_moved (lock_effect moment step (live lock moment))) (lock_after (live lock moment) (lock_effect moment step (live lock moment))) lock)
 lock-sound lock moment step s =
-    members-after lock (live lock moment) (lock_turn moment step (live lock moment)) s (turn-sound moment step (live lock moment) (live-sound lock moment s))
+    members-after lock (live lock moment) (lock_effect moment step (live lock moment)) s (effect-sound moment step (live lock moment) (live-sound lock moment s))

@@ -14,7 +14,7 @@ use Rattle.doc_model.specs.rules.Drawing.{can_draw}
 use Rattle.doc_model.specs.laws.Locks.{Carries, IsFreeOrCarried, CommitsUnderLock}
 use Rattle.doc_model.specs.rules.Locks.{allowed, carries, live}
 use Rattle.doc_model.specs.rules.Puts.{commit_reasons, sent_to, added_by}
-use Rattle.doc_model.specs.rules.Turns.{Turn, refused}
+use Rattle.doc_model.specs.rules.Effects.{Effect, refused}
 use Rattle.doc_model.specs.rules.Versions.{version, restore_version}
 use Rattle.doc_model.proofs.OnStored.{put-accepted}
 use Rattle.doc_model.proofs.Reasons.{none-holds, not-false}
@@ -30,11 +30,11 @@ allowed-by (Exclusive id until) s o f h = f id (carried o id h)
 allowed-by (Shared schema members) s o f h = f schema (carried o schema h)
 
 -- what commits wasn't refused for the lock
-passed : (b : Bool) (x y : Turn) (cs : List Commit) → x.doc.commits ≡ cs → (cond (not b) x y).doc.commits ≢ cs → b ≡ true
+passed : (b : Bool) (x y : Effect) (cs : List Commit) → x.doc.commits ≡ cs → (cond (not b) x y).doc.commits ≢ cs → b ≡ true
 passed true x y cs e ne = refl
 passed false x y cs e ne = absurd (ne e)
 
-same_commits : (b : Bool) (x y : Turn) (cs : List Commit) → x.doc.commits ≡ cs → y.doc.commits ≡ cs → (cond b x y).doc.commits ≡ cs
+same_commits : (b : Bool) (x y : Effect) (cs : List Commit) → x.doc.commits ≡ cs → y.doc.commits ≡ cs → (cond b x y).doc.commits ≡ cs
 same_commits true x y cs p q = p
 same_commits false x y cs p q = q
 

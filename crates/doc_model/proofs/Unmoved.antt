@@ -12,30 +12,30 @@ use Rattle.doc_model.specs.declared.reply.Code.TheVariants.{AlreadyLocked}
 use Rattle.doc_model.specs.rules.Apply.{by_kind}
 use Rattle.doc_model.specs.rules.Drawing.{draw, can_draw}
 use Rattle.doc_model.specs.rules.Editing as editing
-use Rattle.doc_model.specs.rules.Editing.{after_edit, editor_turn, live_editors}
+use Rattle.doc_model.specs.rules.Editing.{after_edit, editor_effect, live_editors}
 use Rattle.doc_model.specs.laws.Documents.{UnmovedIsEqual}
 use Rattle.doc_model.specs.rules.Locking.{after_lock}
 use Rattle.doc_model.specs.rules.Locks.{live, allowed}
-use Rattle.doc_model.specs.rules.LockSteps.{LockTurn, becomes, stays, refuses, leaves, lock_turn}
+use Rattle.doc_model.specs.rules.LockSteps.{LockEffect, becomes, stays, refuses, leaves, lock_effect}
 use Rattle.doc_model.specs.rules.Puts.{put, is_part, part_refusal, commit_refusal, kept, committed}
-use Rattle.doc_model.specs.rules.Turns.{Turn, unless, refused}
+use Rattle.doc_model.specs.rules.Effects.{Effect, unless, refused}
 use Rattle.doc_model.specs.rules.Versions.{version, restore, restore_version, restore_refusal, restored}
 
--- a turn that doesn't move leaves this document
-record Leaves (doc : Doc) (turn : Turn) : Type 0 where
-  pub equal : turn.moved ≡ false → turn.doc ≡ doc
+-- an effect that doesn't move leaves this document
+record Leaves (doc : Doc) (effect : Effect) : Type 0 where
+  pub equal : effect.moved ≡ false → effect.doc ≡ doc
 
-moving : (doc : Doc) (turn : Turn) → turn.moved ≡ true → Leaves doc turn
-moving doc turn m = record { equal = λ h. cc }
+moving : (doc : Doc) (effect : Effect) → effect.moved ≡ true → Leaves doc effect
+moving doc effect m = record { equal = λ h. cc }
 
-staying : (doc : Doc) (turn : Turn) → turn.doc ≡ doc → Leaves doc turn
-staying doc turn e = record { equal = λ h. e }
+staying : (doc : Doc) (effect : Effect) → effect.doc ≡ doc → Leaves doc effect
+staying doc effect e = record { equal = λ h. e }
 
-either : (doc : Doc) (b : Bool) (x y : Turn) → Leaves doc x → Leaves doc y → Leaves doc (cond b x y)
+either : (doc : Doc) (b : Bool) (x y : Effect) → Leaves doc x → Leaves doc y → Leaves doc (cond b x y)
 either doc true x y p q = p
 either doc false x y p q = q
 
-unless_refused : (doc : Doc) (o : Option Code) (done : Turn) → Leaves doc done → Leaves doc (unless o doc done)
+unless_refused : (doc : Doc) (o : Option Code) (done : Effect) → Leaves doc done → Leaves doc (unless o doc done)
 unless_refused doc None done p = p
 unless_refused doc (Some c) done p = staying doc (refused doc c) refl
 
@@ -44,7 +44,7 @@ put_leaves doc m user p =
     either doc (is_part p) _ _ (unless_refused doc (part_refusal doc m p) (kept doc m p) (moving doc (kept doc m p) refl))
     (unless_refused doc (commit_refusal doc m p) (committed doc m user p) (moving doc (committed doc m user p) refl))
 
-lock_leaves : (doc : Doc) (m : ℕ) (step : LockStep) (turn : LockTurn) → Leaves doc (after_lock doc m step turn)
+lock_leaves : (doc : Doc) (m : ℕ) (step : LockStep) (effect : LockEffect) → Leaves doc (after_lock doc m step effect)
 lock_leaves doc m step (becomes new) = moving doc (after_lock doc m step (becomes new)) refl
 lock_leaves doc m step stays = staying doc (after_lock doc m step stays) refl
 lock_leaves doc m step (refuses c) = staying doc (after_lock doc m step (refuses c)) refl
@@ -53,7 +53,7 @@ lock_leaves doc m step (leaves new) = moving doc (after_lock doc m step (leaves 
 draw_leaves : (doc : Doc) (n : ℕ) → Leaves doc (draw doc n)
 draw_leaves doc n = either doc (can_draw doc n) _ _ (record { equal = λ h. cc }) (record { equal = λ h. refl })
 
-edit_leaves : (doc : Doc) (m : ℕ) (turn : editing.EditorTurn) → Leaves doc (after_edit doc m turn)
+edit_leaves : (doc : Doc) (m : ℕ) (effect : editing.EditorEffect) → Leaves doc (after_edit doc m effect)
 edit_leaves doc m (editing.becomes new) = moving doc (after_edit doc m (editing.becomes new)) refl
 edit_leaves doc m editing.stays = staying doc (after_edit doc m editing.stays) refl
 edit_leaves doc m (editing.refuses c) = staying doc (after_edit doc m (editing.refuses c)) refl
@@ -71,8 +71,8 @@ kind_leaves doc m user sub.Access = record { equal = λ h. refl }
 kind_leaves doc m user (sub.Pull known) = record { equal = λ h. refl }
 kind_leaves doc m user (sub.Put p) = put_leaves doc m user p
 kind_leaves doc m user (sub.Draw n) = draw_leaves doc n
-kind_leaves doc m user (sub.Lock step) = lock_leaves doc m step (lock_turn m step (live doc.lock m))
-kind_leaves doc m user (sub.Editor step) = edit_leaves doc m (editor_turn m user step (live_editors doc.editors m))
+kind_leaves doc m user (sub.Lock step) = lock_leaves doc m step (lock_effect m step (live doc.lock m))
+kind_leaves doc m user (sub.Editor step) = edit_leaves doc m (editor_effect m user step (live_editors doc.editors m))
 kind_leaves doc m user sub.Versions = record { equal = λ h. refl }
 kind_leaves doc m user (sub.Restore number carried) = restore_leaves doc m user number carried
 kind_leaves doc m user sub.ReadFile = record { equal = λ h. refl }

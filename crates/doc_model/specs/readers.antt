@@ -1,6 +1,6 @@
 pub mod ElementCodes
-pub mod ElementParts
-pub mod KnowledgeParts
-pub mod NumberedParts
-pub mod RequestParts
-pub mod ResponseParts
+pub mod ElementSites
+pub mod KnowledgeSites
+pub mod NumberedSites
+pub mod RequestSites
+pub mod ResponseSites

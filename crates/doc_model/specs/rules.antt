@@ -15,6 +15,6 @@ pub mod Pulls
 pub mod Puts
 pub mod Reached
 pub mod Sound
-pub mod Turns
+pub mod Effects
 pub mod Versions
 pub mod Weights

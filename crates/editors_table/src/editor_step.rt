@@ -1,6 +1,6 @@
 ghost use Rattle.std.specs.Prelude.{◌≡◌, ℕ, ◌+◌, ◌<◌, ◌^◌, IfOk, IfSome};
-ghost use Rattle.doc_model.specs.rules.Editing.{editor_timeout_of, editor_turn, live_editors};
-ghost use Rattle.editors_table.specs.Turning.{IsTurn};
+ghost use Rattle.doc_model.specs.rules.Editing.{editor_timeout_of, editor_effect, live_editors};
+ghost use Rattle.editors_table.specs.PlannedEffects.{IsEffect};
 
 use crate::live::live_editors;
 use crate::plan::EditorPlan;
@@ -18,7 +18,7 @@ pub fn step(
     step: &EditorStep,
 ) -> Result<EditorPlan, NoMemory>
     requires { IfSome (editor_timeout_of step.now) (λ t. moment + t < 2 ^ 64) }
-    ensures { IfOk result (λ plan. IsTurn (live_editors editors.now moment) (editor_turn moment user.now step.now (live_editors editors.now moment)) plan) }
+    ensures { IfOk result (λ plan. IsEffect (live_editors editors.now moment) (editor_effect moment user.now step.now (live_editors editors.now moment)) plan) }
 {
     let editors = live_editors(alloc, editors, moment)?;
     match step {

@@ -1,6 +1,6 @@
 ghost use Rattle.std.specs.Prelude.{◌≡◌, true, None};
 ghost use Rattle.doc_model.specs.rules.Editing.{stays, refuses};
-ghost use Rattle.editors_table.specs.Turning.{IsTurn};
+ghost use Rattle.editors_table.specs.PlannedEffects.{IsEffect};
 
 use doc_model::{Code, Editors};
 
@@ -29,7 +29,7 @@ impl EditorPlan {
 
     /// The table stays.
     pub fn stay(editors: Editors) -> EditorPlan
-        ensures { IsTurn editors stays result }
+        ensures { IsEffect editors stays result }
     {
         EditorPlan {
             moved: false,
@@ -40,7 +40,7 @@ impl EditorPlan {
 
     /// The step is refused.
     pub fn refuse(editors: Editors, code: Code) -> EditorPlan
-        ensures { IsTurn editors (refuses code) result }
+        ensures { IsEffect editors (refuses code) result }
     {
         EditorPlan {
             moved: false,

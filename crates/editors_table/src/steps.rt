@@ -1,6 +1,6 @@
 ghost use Rattle.std.specs.Prelude.{◌≡◌, IfOk};
 ghost use Rattle.doc_model.specs.rules.Editing.{becomes, on_editor, other_editors, edited, join, set_key, remove_key};
-ghost use Rattle.editors_table.specs.Turning.{IsTurn};
+ghost use Rattle.editors_table.specs.PlannedEffects.{IsEffect};
 
 use crate::editors::{count_others, others, own_editor, replaced, with_editor};
 use crate::entries::{finds_no_place, has_key, is_long, with_entry, without_key};
@@ -18,7 +18,7 @@ pub fn join(
     user: &Text,
     until: u64,
 ) -> Result<EditorPlan, NoMemory>
-    ensures { IfOk result (λ plan. IsTurn editors (join client user.now until editors) plan) }
+    ensures { IfOk result (λ plan. IsEffect editors (join client user.now until editors) plan) }
 {
     if count_others(editors.as_slice(), client) < MOST_EDITORS {
         let after = with_editor(alloc, editors, client, user, until)?;
@@ -30,7 +30,7 @@ pub fn join(
 
 /// The client leaves.
 pub fn leave(alloc: Global, editors: Editors, client: Guid) -> Result<EditorPlan, NoMemory>
-    ensures { IfOk result (λ plan. IsTurn editors (on_editor client editors (λ e. becomes (other_editors client editors))) plan) }
+    ensures { IfOk result (λ plan. IsEffect editors (on_editor client editors (λ e. becomes (other_editors client editors))) plan) }
 {
     match own_editor(editors.as_slice(), client) {
         None => Ok(EditorPlan::refuse(editors, Code::EditorUnknown)),
@@ -48,7 +48,7 @@ pub fn refresh(
     client: Guid,
     until: u64,
 ) -> Result<EditorPlan, NoMemory>
-    ensures { IfOk result (λ plan. IsTurn editors (on_editor client editors (λ e. becomes (edited client (λ x. record x { until = until }) editors))) plan) }
+    ensures { IfOk result (λ plan. IsEffect editors (on_editor client editors (λ e. becomes (edited client (λ x. record x { until = until }) editors))) plan) }
 {
     match own_editor(editors.as_slice(), client) {
         None => Ok(EditorPlan::refuse(editors, Code::EditorUnknown)),
@@ -68,7 +68,7 @@ pub fn set_key(
     key: &Text,
     value: &Octets,
 ) -> Result<EditorPlan, NoMemory>
-    ensures { IfOk result (λ plan. IsTurn editors (on_editor client editors (set_key client key.now value.now editors)) plan) }
+    ensures { IfOk result (λ plan. IsEffect editors (on_editor client editors (set_key client key.now value.now editors)) plan) }
 {
     match own_editor(editors.as_slice(), client) {
         None => Ok(EditorPlan::refuse(editors, Code::EditorUnknown)),
@@ -94,7 +94,7 @@ pub fn remove_key(
     client: Guid,
     key: &Text,
 ) -> Result<EditorPlan, NoMemory>
-    ensures { IfOk result (λ plan. IsTurn editors (on_editor client editors (remove_key client key.now editors)) plan) }
+    ensures { IfOk result (λ plan. IsEffect editors (on_editor client editors (remove_key client key.now editors)) plan) }
 {
     match own_editor(editors.as_slice(), client) {
         None => Ok(EditorPlan::refuse(editors, Code::EditorUnknown)),

@@ -8,8 +8,8 @@ use Rattle.envelope_grammar.specs.declared.tag.Tag.{Tag}
 use Rattle.envelope_grammar.specs.declared.tag.Attribute.{Attribute}
 use Rattle.envelope_grammar.specs.declared.raw.Payload.{Payload}
 use Rattle.envelope_grammar.specs.declared.raw.RawSub.{RawSub}
-use Rattle.envelope_grammar.specs.Grammar.{◌▸◌, Is, SpellsEndName, Element, SpellsOwn, IsSkippedBehind, SpellsContent, IsNamed, SpellsPayload, SpellsPart, present, AtMostOne, SpellsSub, SpellsCollection}
-use Rattle.envelope_grammar.specs.Reading.{◌>>=◌, all_of, inside_step, skipped, content_at, end_tag_at, elements, is_named, data_with, payload_of, part_of, at_most_one, sub_with, sub_of, collection_of}
+use Rattle.envelope_grammar.specs.Grammar.{◌▸◌, Is, SpellsEndName, Element, SpellsOwn, IsSkippedBehind, SpellsContent, IsNamed, SpellsPayload, SpellsSubChild, present, AtMostOne, SpellsSub, SpellsCollection}
+use Rattle.envelope_grammar.specs.Reading.{◌>>=◌, all_of, inside_step, skipped, content_at, end_tag_at, elements, is_named, data_with, payload_of, sub_child_of, at_most_one, sub_with, sub_of, collection_of}
 use Rattle.envelope_grammar.proofs.Runs.{bind_some, guard_some, some_is, pair_is, bytes_same, bytes_eq_true}
 use Rattle.envelope_grammar.proofs.Attributes.{regroup}
 use Rattle.envelope_grammar.proofs.TagLaws.{end_again, end_takes}
@@ -85,33 +85,33 @@ not_named word tag false e no_name = refl
 named : (word : List ℕ) (tag : Tag) → IsNamed word tag → is_named word tag ≡ true
 named word tag h = ap (λ (l : List ℕ). bytes_eq l word) h ∙ bytes_same word
 
-part_again : (o : Option Payload) (tag : Tag) (b more : List ℕ) → SpellsPart o tag b → part_of tag (b ++ more) ≡ Some (o, more)
-unfolding part_of
-part_again (Some p) tag b more h = rw (named (codes "SubRequestData") tag h.0, payload_again p tag b more h.1) refl
-part_again None tag b more h =
+sub_child_again : (o : Option Payload) (tag : Tag) (b more : List ℕ) → SpellsSubChild o tag b → sub_child_of tag (b ++ more) ≡ Some (o, more)
+unfolding sub_child_of
+sub_child_again (Some p) tag b more h = rw (named (codes "SubRequestData") tag h.0, payload_again p tag b more h.1) refl
+sub_child_again None tag b more h =
     let skip = skipped_reads 16 in
     rw (not_named (codes "SubRequestData") tag (is_named (codes "SubRequestData") tag) refl h.0, skip.again tag b more h.1) refl
 
 part_takes_by : (tag : Tag) (t : Bool) (bytes : List ℕ) (o : Option Payload) (rest : List ℕ) → is_named (codes "SubRequestData") tag ≡ t
     → cond {A = Option (Option Payload × List ℕ)} t (payload_of tag bytes >>= (λ x. Some (Some x.0, x.1))) (skipped 16 tag bytes >>= λ r. Some (None, r)) ≡ Some (o, rest)
-    → (b : List ℕ) × SpellsPart o tag b × (bytes ≡ b ++ rest)
+    → (b : List ℕ) × SpellsSubChild o tag b × (bytes ≡ b ++ rest)
 part_takes_by tag true bytes o rest n e =
     let m = bind_some (payload_of tag bytes) (λ x. Some (Some x.0, x.1)) (o, rest) e in
     let q = pair_is {A = Option Payload} {B = List ℕ} (Some m.0.0, m.0.1) (o, rest) m.2 in
     let t = payload_takes tag bytes m.0.0 m.0.1 m.1 in
-    let part : SpellsPart (Some m.0.0) tag t.0 = (bytes_eq_true tag.name.local (codes "SubRequestData") n, t.1) in
-    (t.0, subst (λ (x : Option Payload). SpellsPart x tag t.0) q.0 part, t.2 ∙ ap (λ (l : List ℕ). t.0 ++ l) q.1)
+    let part : SpellsSubChild (Some m.0.0) tag t.0 = (bytes_eq_true tag.name.local (codes "SubRequestData") n, t.1) in
+    (t.0, subst (λ (x : Option Payload). SpellsSubChild x tag t.0) q.0 part, t.2 ∙ ap (λ (l : List ℕ). t.0 ++ l) q.1)
 part_takes_by tag false bytes o rest n e =
     let m = bind_some (skipped 16 tag bytes) (λ r. Some (None, r)) (o, rest) e in
     let q = pair_is {A = Option Payload} {B = List ℕ} (None, m.0) (o, rest) m.2 in
     let skip = skipped_reads 16 in
     let t = skip.takes tag bytes m.0 m.1 in
-    let part : SpellsPart None tag t.0 = (λ h. false≢true (sym n ∙ named (codes "SubRequestData") tag h), t.1) in
-    (t.0, subst (λ (x : Option Payload). SpellsPart x tag t.0) q.0 part, t.2 ∙ ap (λ (l : List ℕ). t.0 ++ l) q.1)
+    let part : SpellsSubChild None tag t.0 = (λ h. false≢true (sym n ∙ named (codes "SubRequestData") tag h), t.1) in
+    (t.0, subst (λ (x : Option Payload). SpellsSubChild x tag t.0) q.0 part, t.2 ∙ ap (λ (l : List ℕ). t.0 ++ l) q.1)
 
-part_takes : (tag : Tag) (bytes : List ℕ) (o : Option Payload) (rest : List ℕ) → part_of tag bytes ≡ Some (o, rest) → (b : List ℕ) × SpellsPart o tag b × (bytes ≡ b ++ rest)
-unfolding part_of
-part_takes tag bytes o rest e = part_takes_by tag (is_named (codes "SubRequestData") tag) bytes o rest refl e
+sub_child_takes : (tag : Tag) (bytes : List ℕ) (o : Option Payload) (rest : List ℕ) → sub_child_of tag bytes ≡ Some (o, rest) → (b : List ℕ) × SpellsSubChild o tag b × (bytes ≡ b ++ rest)
+unfolding sub_child_of
+sub_child_takes tag bytes o rest e = part_takes_by tag (is_named (codes "SubRequestData") tag) bytes o rest refl e
 
 -- ---- subrequests
 
@@ -127,18 +127,18 @@ one_takes (v ∷ w ∷ vs) o e = absurd cc
 sub_again : (s : RawSub) (tag : Tag) (b more : List ℕ) → SpellsSub s tag b → sub_of tag (b ++ more) ≡ Some (s, more)
 unfolding sub_of
 sub_again s tag b more h =
-    let parts = elements_reads SpellsPart part_of (record { again = part_again; takes = part_takes }) in
+    let parts = elements_reads SpellsSubChild sub_child_of (record { again = sub_child_again; takes = sub_child_takes }) in
     rw (named (codes "SubRequest") tag h.named, parts.again h.parts tag b more h.spelled, one_again (present h.parts) s.payload h.one) (ap (λ (a : List Attribute). Some (record s { attributes = a }, more)) (sym h.attributes))
 
 sub_takes : (tag : Tag) (bytes : List ℕ) (s : RawSub) (rest : List ℕ) → sub_of tag bytes ≡ Some (s, rest) → (b : List ℕ) × SpellsSub s tag b × (bytes ≡ b ++ rest)
 unfolding sub_of
 sub_takes tag bytes s rest e =
-    let g = guard_some (is_named (codes "SubRequest") tag) (elements part_of tag bytes >>= sub_with tag.attributes) (s, rest) e in
-    let m = bind_some (elements part_of tag bytes) (sub_with tag.attributes) (s, rest) g.1 in
+    let g = guard_some (is_named (codes "SubRequest") tag) (elements sub_child_of tag bytes >>= sub_with tag.attributes) (s, rest) e in
+    let m = bind_some (elements sub_child_of tag bytes) (sub_with tag.attributes) (s, rest) g.1 in
     let o = bind_some (at_most_one (present m.0.0)) (λ payload. Some (record { attributes = tag.attributes; payload = payload }, m.0.1)) (s, rest) m.2 in
     let made : RawSub = record { attributes = tag.attributes; payload = o.0 } in
     let q = pair_is {A = RawSub} {B = List ℕ} (made, m.0.1) (s, rest) o.2 in
-    let parts = elements_reads SpellsPart part_of (record { again = part_again; takes = part_takes }) in
+    let parts = elements_reads SpellsSubChild sub_child_of (record { again = sub_child_again; takes = sub_child_takes }) in
     let t = parts.takes tag bytes m.0.0 m.0.1 m.1 in
     let spelled : SpellsSub made tag t.0 = record { named = bytes_eq_true tag.name.local (codes "SubRequest") g.0; attributes = refl; parts = m.0.0; one = one_takes (present m.0.0) o.0 o.1; spelled = t.1 } in
     (t.0, subst (λ (x : RawSub). SpellsSub x tag t.0) q.0 spelled, t.2 ∙ ap (λ (l : List ℕ). t.0 ++ l) q.1)

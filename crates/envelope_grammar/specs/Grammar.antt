@@ -211,9 +211,9 @@ abbrev pub SpellsPayload : Payload → Tag → List ℕ → Type 0
 SpellsPayload payload tag bytes = (payload.attributes ≡ tag.attributes) × Behind (λ b. (payload.text ≡ []) × (b ≡ [])) (SpellsContent payload.text) tag bytes
 
 -- in a SubRequest: its data, or an element that is skipped
-abbrev pub SpellsPart : Option Payload → Tag → List ℕ → Type 0
-SpellsPart (Some payload) tag bytes = IsNamed (codes "SubRequestData") tag × SpellsPayload payload tag bytes
-SpellsPart None tag bytes = (¬ IsNamed (codes "SubRequestData") tag) × IsSkippedBehind 16 tag bytes
+abbrev pub SpellsSubChild : Option Payload → Tag → List ℕ → Type 0
+SpellsSubChild (Some payload) tag bytes = IsNamed (codes "SubRequestData") tag × SpellsPayload payload tag bytes
+SpellsSubChild None tag bytes = (¬ IsNamed (codes "SubRequestData") tag) × IsSkippedBehind 16 tag bytes
 
 -- those that are there
 abbrev pub present : {V : Type 0} → List (Option V) → List V
@@ -230,7 +230,7 @@ pub record SpellsSub (sub : RawSub) (tag : Tag) (bytes : List ℕ) : Type 0 wher
   pub attributes : sub.attributes ≡ tag.attributes
   pub parts : List (Option Payload)
   pub one : AtMostOne (present parts) sub.payload
-  pub spelled : SpellsElements SpellsPart parts tag bytes
+  pub spelled : SpellsElements SpellsSubChild parts tag bytes
 
 pub record SpellsRequest (request : RawRequest) (tag : Tag) (bytes : List ℕ) : Type 0 where
   pub named : IsNamed (codes "Request") tag

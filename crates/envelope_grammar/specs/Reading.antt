@@ -195,8 +195,8 @@ payload_of tag bytes =
     else content_at (skipped 16) bytes >>= λ content. end_tag_at tag.name content.1 >>= λ rest. Some (data_with tag.attributes content.0, rest)
 
 -- An element in a SubRequest: its data, or one that is skipped.
-unfoldable pub part_of : Tag → List ℕ → Option (Option Payload × List ℕ)
-part_of tag bytes =
+unfoldable pub sub_child_of : Tag → List ℕ → Option (Option Payload × List ℕ)
+sub_child_of tag bytes =
     if is_named (codes "SubRequestData") tag then payload_of tag bytes >>= (λ x. Some (Some x.0, x.1))
     else skipped 16 tag bytes >>= λ rest. Some (None, rest)
 
@@ -209,7 +209,7 @@ abbrev pub sub_with : List Attribute → List (Option Payload) × List ℕ → O
 sub_with attributes parts = at_most_one (present parts.0) >>= λ payload. Some (record { attributes = attributes; payload = payload }, parts.1)
 
 unfoldable pub sub_of : Tag → List ℕ → Option (RawSub × List ℕ)
-sub_of tag bytes = if is_named (codes "SubRequest") tag then elements part_of tag bytes >>= sub_with tag.attributes else None
+sub_of tag bytes = if is_named (codes "SubRequest") tag then elements sub_child_of tag bytes >>= sub_with tag.attributes else None
 
 abbrev pub request_with : List Attribute → List RawSub × List ℕ → Option (RawRequest × List ℕ)
 request_with attributes subs = Some (record { attributes = attributes; subs = subs.0 }, subs.1)

@@ -4,7 +4,7 @@ ghost use Rattle.envelope_grammar.specs.declared.tag.Tag.{Tag};
 ghost use Rattle.envelope_grammar.specs.Answers.{Finds, Gives};
 ghost use Rattle.envelope_grammar.specs.Grammar.{present};
 ghost use Rattle.envelope_grammar.specs.Kinds.{step_or_end};
-ghost use Rattle.envelope_grammar.specs.Reading.{all_of, element_step, elements, payload_of, part_of, sub_of, request_of, collection_of, at_most_one, no_child, version_of};
+ghost use Rattle.envelope_grammar.specs.Reading.{all_of, element_step, elements, payload_of, sub_child_of, sub_of, request_of, collection_of, at_most_one, no_child, version_of};
 
 use crate::fault::ReadFault;
 use crate::lexical::{past, past_white};
@@ -125,14 +125,14 @@ fn payload_of<'a>(
 }
 
 /// What stands in a SubRequest.
-struct Part;
+struct SubChild;
 
-impl Child for Part {
+impl Child for SubChild {
     type Item = Option<Payload>;
 
-    ghost reads = { part_of };
+    ghost reads = { sub_child_of };
 
-    #[tactic(auto, unfolding(crate::specs::Reading::part_of))]
+    #[tactic(auto, unfolding(crate::specs::Reading::sub_child_of))]
     fn read<'a>(
         alloc: Global,
         tag: Tag,
@@ -177,7 +177,7 @@ impl Child for SubRequest {
         if !is_named(&tag, b"SubRequest") {
             return Err(ReadFault::NotInGrammar);
         }
-        let (parts, rest) = elements::<Part>(alloc, &tag, bytes)?;
+        let (parts, rest) = elements::<SubChild>(alloc, &tag, bytes)?;
         match at_most_one(parts) {
             Some(payload) => Ok((
                 RawSub {

@@ -1,7 +1,7 @@
 pub mod Digits
 pub mod Lookups
 pub mod White
-pub mod Turns
+pub mod AskLoops
 pub mod Callables
 pub mod TextLengths
 pub mod CellLengths

@@ -6,7 +6,7 @@ use Rattle.std.specs.Str.{bytes_eq}
 use Rattle.std.proofs.lemmas.List.{length-append}
 use Rattle.std.proofs.lemmas.Str.{encodes-chars, encodes-append, length-encode, len_utf8_bounds}
 use Rattle.envelope_grammar.specs.Front.{IsEnvelopeText}
-use Rattle.envelope_grammar.specs.Grammar.{Then, ◌▸◌, Is, White, Element, SpellsTag, SpellsEndName, tag_end, Piece, Plain, Reference, ArePieces, as_written, as_meant, hashed, character_of, SpellsText, SpellsOwn, SpellsMixed, IsSkippedBehind, SpellsContent, SpellsChildren, SpellsElements, SpellsPayload, SpellsPart, present, AtMostOne, SpellsSub, SpellsRequest, SpellsCollection, Holding, SpellsVersion, SpellsBody, SpellsEnvelope, SpellsDocument}
+use Rattle.envelope_grammar.specs.Grammar.{Then, ◌▸◌, Is, White, Element, SpellsTag, SpellsEndName, tag_end, Piece, Plain, Reference, ArePieces, as_written, as_meant, hashed, character_of, SpellsText, SpellsOwn, SpellsMixed, IsSkippedBehind, SpellsContent, SpellsChildren, SpellsElements, SpellsPayload, SpellsSubChild, present, AtMostOne, SpellsSub, SpellsRequest, SpellsCollection, Holding, SpellsVersion, SpellsBody, SpellsEnvelope, SpellsDocument}
 use Rattle.envelope_grammar.specs.declared.raw.Payload.{Payload}
 use Rattle.envelope_grammar.specs.declared.raw.RawRequest.{RawRequest}
 use Rattle.envelope_grammar.specs.declared.raw.RawSub.{RawSub}
@@ -94,11 +94,11 @@ tag_long tag bytes h =
     omega (arith, ap length h.bytes_are, length-append h.front h.back, ap length h.first, ap length a.bytes_are, length-append a.front a.back, ap length b.bytes_are, length-append b.front b.back, ap length b.second, tag_end_long tag.closed)
 
 -- the text of the data, and two bytes more, lie in so many
-abbrev pub IsShortPart : ℕ → Option Payload → Type 0
-IsShortPart most part = length (data_text part) + 2 ≤ most
+abbrev pub IsShortSubChild : ℕ → Option Payload → Type 0
+IsShortSubChild most part = length (data_text part) + 2 ≤ most
 
 abbrev pub IsShortSub : ℕ → RawSub → Type 0
-IsShortSub most sub = IsShortPart most sub.payload
+IsShortSub most sub = IsShortSubChild most sub.payload
 
 abbrev pub IsShortRequest : ℕ → RawRequest → Type 0
 IsShortRequest most request = AllByRecursion (IsShortSub most) request.subs
@@ -113,11 +113,11 @@ payload_short payload tag front back t h =
       | inr k ↦ omega (arith, then_length (SpellsContent payload.text) (SpellsEndName tag.name) back k.1, content_shorter payload.text k.1.front k.1.first)
     ]
 
-part_short : (part : Option Payload) (bytes : List ℕ) → Element (SpellsPart part) bytes → IsShortPart (length bytes) part
-part_short (Some payload) bytes h =
+sub_child_short : (part : Option Payload) (bytes : List ℕ) → Element (SpellsSubChild part) bytes → IsShortSubChild (length bytes) part
+sub_child_short (Some payload) bytes h =
     let t = h.spelled in
     omega (arith, ap length t.bytes_are, length-append t.front t.back, payload_short payload h.tag t.front t.back t.first t.second.1)
-part_short None bytes h =
+sub_child_short None bytes h =
     let t = h.spelled in
     omega (arith, ap length t.bytes_are, length-append t.front t.back, tag_long h.tag t.front t.first)
 
@@ -147,8 +147,8 @@ module _ {V : Type 0} (Child : V → Tag → List ℕ → Type 0) (Fits : ℕ �
             all_more (length k.1.front) (length bytes) vs (omega (arith, then_length (SpellsChildren Child vs) end bytes k.1)) (children_fit vs k.1.front k.1.first)
       ]
 
-part_more : (m n : ℕ) (part : Option Payload) → m ≤ n → IsShortPart m part → IsShortPart n part
-part_more m n part le h = omega (arith, le, h)
+sub_child_more : (m n : ℕ) (part : Option Payload) → m ≤ n → IsShortSubChild m part → IsShortSubChild n part
+sub_child_more m n part le h = omega (arith, le, h)
 
 sub_more : (m n : ℕ) (sub : RawSub) → m ≤ n → IsShortSub m sub → IsShortSub n sub
 sub_more m n sub le h = omega (arith, le, h)
@@ -165,14 +165,14 @@ requests_more m n [] le h = tt
 requests_more m n (request ∷ requests) le h = (request_more m n request le h.0, requests_more m n requests le h.1)
 
 -- the data among the parts
-present_short : (most : ℕ) (parts : List (Option Payload)) → AllByRecursion (IsShortPart most) parts → AllByRecursion (λ p. IsShortPart most (Some p)) (present parts)
+present_short : (most : ℕ) (parts : List (Option Payload)) → AllByRecursion (IsShortSubChild most) parts → AllByRecursion (λ p. IsShortSubChild most (Some p)) (present parts)
 present_short most [] h = tt
 present_short most (None ∷ parts) h = present_short most parts h.1
 present_short most (Some p ∷ parts) h = (h.0, present_short most parts h.1)
 
-one_short : (most : ℕ) (found : List Payload) (payload : Option Payload) → 2 ≤ most → AtMostOne found payload → AllByRecursion (λ p. IsShortPart most (Some p)) found → IsShortPart most payload
+one_short : (most : ℕ) (found : List Payload) (payload : Option Payload) → 2 ≤ most → AtMostOne found payload → AllByRecursion (λ p. IsShortSubChild most (Some p)) found → IsShortSubChild most payload
 one_short most found None two one h = two
-one_short most found (Some payload) two one h = (subst (λ (l : List Payload). AllByRecursion (λ p. IsShortPart most (Some p)) l) one h).0
+one_short most found (Some payload) two one h = (subst (λ (l : List Payload). AllByRecursion (λ p. IsShortSubChild most (Some p)) l) one h).0
 
 sub_short : (sub : RawSub) (bytes : List ℕ) → Element (SpellsSub sub) bytes → IsShortSub (length bytes) sub
 sub_short sub bytes h =
@@ -180,8 +180,8 @@ sub_short sub bytes h =
     let s = t.second in
     let long = tag_long h.tag t.front t.first in
     let size : length bytes ≡ length t.front + length t.back = ap length t.bytes_are ∙ length-append t.front t.back in
-    let parts = elements_fit SpellsPart IsShortPart part_more part_short s.parts h.tag t.back s.spelled in
-    let all = all_more SpellsPart IsShortPart part_more part_short (length t.back) (length bytes) s.parts (omega (arith, size)) parts in
+    let parts = elements_fit SpellsSubChild IsShortSubChild sub_child_more sub_child_short s.parts h.tag t.back s.spelled in
+    let all = all_more SpellsSubChild IsShortSubChild sub_child_more sub_child_short (length t.back) (length bytes) s.parts (omega (arith, size)) parts in
     one_short (length bytes) (present s.parts) sub.payload (omega (arith, size, long)) s.one (present_short (length bytes) s.parts all)
 
 request_short : (request : RawRequest) (bytes : List ℕ) → Element (SpellsRequest request) bytes → IsShortRequest (length bytes) request

@@ -21,7 +21,7 @@ use Rattle.doc_model.specs.rules.Finding.{Mappings, as_index, as_storage, as_cel
 use Rattle.doc_model.specs.rules.Limits.{most_file, most_added_weight, most_reached_weight}
 use Rattle.doc_model.specs.rules.Puts.{put, committed, commit_reasons, commit_refusal, grown, has_chains, has_invalid, is_foreign, is_invalid, is_new, too_large, too_much_added}
 use Rattle.doc_model.specs.rules.Reached.{absent, blob_of, blob_name, cell_name, cells_of, currents_of, each_once, group_name, named_along, named_blobs, named_groups, named_revisions, names, names_below, reached_from, revision_name, storage_name, is_among}
-use Rattle.doc_model.specs.rules.Turns.{Turn, first_refusal, unless}
+use Rattle.doc_model.specs.rules.Effects.{Effect, first_refusal, unless}
 use Rattle.doc_model.specs.rules.Weights.{weight, weight_of}
 use Rattle.doc_model.proofs.AllFirst.{firsts-distinct}
 use Rattle.doc_model.proofs.EachItem.{each-none}
@@ -29,13 +29,13 @@ use Rattle.doc_model.proofs.Reasons.{no-refusal}
 use Rattle.doc_model.proofs.SameContents.{exact-body}
 use Rattle.doc_model.proofs.SoundParts.{sum-filter}
 use Rattle.file_nodes.specs.declared.chunking.Chunked.{Chunked}
-use Rattle.file_nodes.specs.Chunking.{Part, leaf, node, numbered, objects_of, file_objects, leaves}
+use Rattle.file_nodes.specs.Chunking.{Chunk, leaf, node, numbered, objects_of, file_objects, leaves}
 use Rattle.file_nodes.specs.Chunks.{id_of, index_body, storage_body, cell_body, revision_body, elements_round, chunked}
 use Rattle.file_nodes.specs.ChunkLaws.{new_doc, upload, CutFileIsStored}
 use Rattle.file_nodes.proofs.ChunkedFile.{mappings, roots, manifest, consecutive, said-at, chain_is, file-chunked}
 use Rattle.file_nodes.proofs.ChunkWeight.{light-objects, light-elements}
 use Rattle.file_nodes.specs.Pieces.{pieces}
-use Rattle.file_nodes.proofs.PartLaws.{all-few, all-many}
+use Rattle.file_nodes.proofs.ChunkLaws.{all-few, all-many}
 use Rattle.file_nodes.proofs.FindLaws.{find-consecutive, distinct-consecutive}
 
 pub not-above : (a b : ℕ) → b ≤ a → nat_lt a b ≡ false
@@ -106,7 +106,7 @@ module _ (added : List Element) (objects : List Object) (guid : Guid) (first : �
 abbrev own_blobs : List Object → List ExGuid
 own_blobs os = flat_map (λ o. blob_of o.content) os
 
-none-numbered : {X : Type 0} (make : ℕ → X → Part) → ((v : ℕ) (x : X) → blob_of (make v x).object.content ≡ []) → (v : ℕ) (xs : List X)
+none-numbered : {X : Type 0} (make : ℕ → X → Chunk) → ((v : ℕ) (x : X) → blob_of (make v x).object.content ≡ []) → (v : ℕ) (xs : List X)
     → own_blobs (objects_of (numbered make v xs)) ≡ []
 none-numbered {X} make h v [] = refl
 none-numbered {X} make h v (x ∷ xs) = rw (h v x, none-numbered make h (v + 1) xs)
@@ -237,5 +237,5 @@ cut-file-is-stored bytes user guid own first drawn moment short are_drawn =
     record {
       no_refusal = none;
       commits = done;
-      content = ap (λ (t : Turn). file t.doc.added p.index) done ∙ ap (λ (l : List Element). file l p.index) (all_fresh objects guid first) ∙ file-chunked bytes guid first short;
+      content = ap (λ (t : Effect). file t.doc.added p.index) done ∙ ap (λ (l : List Element). file l p.index) (all_fresh objects guid first) ∙ file-chunked bytes guid first short;
     }

@@ -20,11 +20,11 @@ use Rattle.doc_model.specs.declared.element.Element.{Element}
 use Rattle.doc_model.specs.declared.element.Body.TheVariants.{Group}
 use Rattle.doc_model.proofs.SizeBounds.{few-simple, few-compound, few-item, few-declaration, few-data, few-weight, few-in-index, few-in-storage, few-in-cell, few-in-revision, length-in-group}
 use Rattle.file_nodes.specs.Pieces.{pieces}
-use Rattle.file_nodes.specs.Chunking.{Part, inline, leaf, node, numbered, objects_of, ids_of, joined_files, leaves, levels, file_objects}
+use Rattle.file_nodes.specs.Chunking.{Chunk, inline, leaf, node, numbered, objects_of, ids_of, joined_files, leaves, levels, file_objects}
 use Rattle.file_nodes.specs.Chunks.{id_of, index_body, storage_body, cell_body, revision_body, schema, elements_round}
 use Rattle.file_nodes.proofs.ChunkedFile.{mappings, roots, manifest}
 use Rattle.file_nodes.proofs.PieceLaws.{flat_map-pieces, length-pieces}
-use Rattle.file_nodes.proofs.PartLaws.{length-nodes, length-numbered, all-few, all-many}
+use Rattle.file_nodes.proofs.ChunkLaws.{length-nodes, length-numbered, all-few, all-many}
 use Rattle.file_nodes.proofs.FileLaw.{length-sha256}
 use Rattle.file_nodes.proofs.References.{few-top, pieces_are_short}
 
@@ -81,7 +81,7 @@ few-node kind signature size k s =
       few-simple 0x22 (little_endian 8 size) (omega arith),
     )
 
-light-node : (kind : ℕ) (guid : Guid) (v : ℕ) (parts : List Part) → kind ≤ 63 → length parts ≤ 64
+light-node : (kind : ℕ) (guid : Guid) (v : ℕ) (parts : List Chunk) → kind ≤ 63 → length parts ≤ 64
     → (let o = (node kind guid v parts).object in length (declaration_bytes o) + length (data_bytes o)) ≤ 1576
 light-node kind guid v parts k few =
     let file = joined_files parts in
@@ -90,10 +90,10 @@ light-node kind guid v parts k few =
       arith,
       light-object guid v (ids_of parts) bytes,
       few-node kind (sha256 file) (length file) k (omega (arith, length-sha256 file)),
-      length-map parts (λ (p : Part). p.object.id),
+      length-map parts (λ (p : Chunk). p.object.id),
     )
 
-light-nodes : (guid : Guid) (v : ℕ) (groups : List (List Part)) → AllByRecursion (λ g. length g ≤ 64) groups
+light-nodes : (guid : Guid) (v : ℕ) (groups : List (List Chunk)) → AllByRecursion (λ g. length g ≤ 64) groups
     → bulk (objects_of (numbered (node 0x1F guid) v groups)) ≤ 1576 * length groups
 light-nodes guid v [] f = omega arith
 light-nodes guid v (g ∷ groups) f =

@@ -5,7 +5,7 @@ use Rattle.doc_model.specs.rules.Limits.{most_objects}
 use Rattle.doc_model.specs.rules.Weights.{objects_written}
 use Rattle.file_nodes.specs.ChunkLaws.{CutFileMayBePut}
 use Rattle.file_nodes.specs.Chunks.{chunked}
-use Rattle.file_nodes.proofs.PartLaws.{length-file_objects}
+use Rattle.file_nodes.proofs.ChunkLaws.{length-file_objects}
 
 pub cut-file-may-be-put : CutFileMayBePut
 cut-file-may-be-put bytes guid first short =

@@ -9,7 +9,7 @@ use Rattle.compact_values.specs.declared.ids.ExGuid.{ExGuid}
 use Rattle.compact_values.specs.SameIds.{same_id}
 use Rattle.doc_model.specs.rules.FileObjects.{FileObject, joined, node_file, file_below}
 use Rattle.doc_model.specs.rules.Nodes.{node_size}
-use Rattle.file_nodes.specs.FileAnswers.{Agrees, stored_file, IsFile, IsTooLarge, IsFileAnswer, IsOrNoMemory, Exactly}
+use Rattle.file_nodes.specs.FileAnswers.{Agrees, stored_file, IsFile, IsTooLarge, IsFileResult, IsOrNoMemory, Exactly}
 use Rattle.file_nodes.specs.FileWalks.{as_file_object, stored_objects, find_stored, total, arrived, arrive, behind, walk, walk_from, walk_root, fault_of, first_fault}
 use Rattle.file_nodes.specs.Links.{place_of, below_table, joined_from, answer_by, node_answer, answer_at, file_answer}
 use Rattle.file_nodes.specs.declared.fault.NodeFault.{NodeFault}
@@ -23,7 +23,7 @@ use Rattle.file_nodes.proofs.WalkTables.{node_is}
 -- ---- the answer says what it has to
 
 -- a fault is said
-pub fault_said : (objects : List StoredObject) (root : ExGuid) (fault : NodeFault) → fault ≢ TooLarge → first_fault objects root ≡ Some fault → IsFileAnswer objects root (Err fault)
+pub fault_said : (objects : List StoredObject) (root : ExGuid) (fault : NodeFault) → fault ≢ TooLarge → first_fault objects root ≡ Some fault → IsFileResult objects root (Err fault)
 fault_said objects root (Absent id) n e = e
 fault_said objects root TooHigh n e = e
 fault_said objects root (NotANode id) n e = e
@@ -33,21 +33,21 @@ fault_said objects root NoMemory n e = tt
 
 -- a file is said by its length
 file_said : (objects : List StoredObject) (root : ExGuid) (file : List ℕ) (size : ℕ) (joined : List ℕ) → stored_file objects root ≡ Some file → size ≡ length file → joined ≡ file
-    → IsFileAnswer objects root (answer_by (Ok size) joined)
+    → IsFileResult objects root (answer_by (Ok size) joined)
 file_said objects root file size joined e l j =
     elim (cases_lt 16777216 size) [
       | inl lt ↦
           let test : nat_lt 16777216 size ≡ true = lt-ltb 16777216 size lt in
-          subst (λ (b : Bool). IsFileAnswer objects root (cond b (Err TooLarge) (Ok joined))) (sym test) (file, e, omega arith)
+          subst (λ (b : Bool). IsFileResult objects root (cond b (Err TooLarge) (Ok joined))) (sym test) (file, e, omega arith)
       | inr le ↦
           let test : nat_lt 16777216 size ≡ false = le-ltb 16777216 size le in
           let short : length joined ≤ 16777216 = omega (arith, ap (λ (x : List ℕ). length x) j) in
-          subst (λ (b : Bool). IsFileAnswer objects root (cond b (Err TooLarge) (Ok joined))) (sym test) (e ∙ ap Some (sym j), short)
+          subst (λ (b : Bool). IsFileResult objects root (cond b (Err TooLarge) (Ok joined))) (sym test) (e ∙ ap Some (sym j), short)
     ]
 
 -- what is said by a walk and the file that agrees with it
 walked_said : (objects : List StoredObject) (root : ExGuid) (joined : List ℕ) (file : Option (List ℕ)) (walked : Result ℕ NodeFault) → stored_file objects root ≡ file → walk_root objects root ≡ walked
-    → Agrees file walked → NotLarge walked → ((f : List ℕ) → file ≡ Some f → joined ≡ f) → IsFileAnswer objects root (answer_by walked joined)
+    → Agrees file walked → NotLarge walked → ((f : List ℕ) → file ≡ Some f → joined ≡ f) → IsFileResult objects root (answer_by walked joined)
 walked_said objects root joined (Some f) (Ok size) e w a n j = file_said objects root f size joined e a (j f refl)
 walked_said objects root joined (Some f) (Err fault) e w a n j = absurd a
 walked_said objects root joined None (Ok size) e w a n j = absurd a
@@ -70,26 +70,26 @@ module _ (objects : List StoredObject) (root : ExGuid) where
   abbrev pub walk_node : StoredObject → Result ℕ NodeFault
   walk_node o = behind o (node_size o.bytes) (total (map (arrive objects (walk objects 7)) o.references))
 
-  node_said : (o : StoredObject) → find_stored objects root ≡ Some o → slice_get objects place ≡ Some o → eqb (length o.references) 0 ≡ false → IsFileAnswer objects root (node_answer objects place o)
+  node_said : (o : StoredObject) → find_stored objects root ≡ Some o → slice_get objects place ≡ Some o → eqb (length o.references) 0 ≡ false → IsFileResult objects root (node_answer objects place o)
   node_said o e at some =
       let walked = walk_found o e ∙ ap (λ (b : Bool). cond b (Ok 0) (walk_node o)) some in
       let file = file_found o e ∙ ap (λ (b : Bool). cond b (Some []) (node_file (file_below (stored_objects objects) 7) (as_file_object o))) some in
       let agrees = subst (λ (w : Result ℕ NodeFault). Agrees (stored_file objects root) w) walked (root_is objects root) in
-      subst (λ (w : Result ℕ NodeFault). IsFileAnswer objects root (answer_by w (joined_from objects place))) (sym (node_is objects (walk objects 7) (below_table objects) refl o some))
+      subst (λ (w : Result ℕ NodeFault). IsFileResult objects root (answer_by w (joined_from objects place))) (sym (node_is objects (walk objects 7) (below_table objects) refl o some))
       (walked_said objects root (joined_from objects place) (stored_file objects root) (walk_node o) refl walked agrees (node_fault objects 7 (walk_fault objects 7) o)
       (λ f g. node_joined objects 7 (omega arith) (is_joined objects 7 (omega arith)) place o f at some (sym file ∙ g)))
 
-  root_said : (found : Option StoredObject) → find_stored objects root ≡ found → slice_get objects place ≡ found → IsFileAnswer objects root (answer_at objects root place found)
+  root_said : (found : Option StoredObject) → find_stored objects root ≡ found → slice_get objects place ≡ found → IsFileResult objects root (answer_at objects root place found)
   root_said None e at = ap (λ (p : Option StoredObject). fault_of (arrived root (option_map (walk_from objects) p))) e
   root_said (Some o) e at =
       elim (cases_Bool (eqb (length o.references) 0)) [
         | inl y ↦
             let file = file_found o e ∙ ap (λ (b : Bool). cond b (Some []) (node_file (file_below (stored_objects objects) 7) (as_file_object o))) y in
-            subst (λ (b : Bool). IsFileAnswer objects root (cond b (Ok []) (node_answer objects place o))) (sym y) (file, omega arith)
-        | inr n ↦ subst (λ (b : Bool). IsFileAnswer objects root (cond b (Ok []) (node_answer objects place o))) (sym n) (node_said o e at n)
+            subst (λ (b : Bool). IsFileResult objects root (cond b (Ok []) (node_answer objects place o))) (sym y) (file, omega arith)
+        | inr n ↦ subst (λ (b : Bool). IsFileResult objects root (cond b (Ok []) (node_answer objects place o))) (sym n) (node_said o e at n)
       ]
 
-  pub answer_said : IsFileAnswer objects root (file_answer objects root)
+  pub answer_said : IsFileResult objects root (file_answer objects root)
   answer_said = root_said (slice_get objects place) (find_at (λ o. same_id o.id root) objects) refl
 
 -- ---- no other answer says it
@@ -110,7 +110,7 @@ module _ (objects : List StoredObject) (root : ExGuid) where
   one_fault : (f g : NodeFault) → first_fault objects root ≡ Some f → first_fault objects root ≡ Some g → ◌≡◌ {A = Result (List ℕ) NodeFault} (Err f) (Err g)
   one_fault f g e h = ap Err (same_Some f g (sym e ∙ h))
 
-  pub file_only : (file : List ℕ) → IsFile objects root file → (a : Result (List ℕ) NodeFault) → IsFileAnswer objects root a → IsOrNoMemory a (Ok file)
+  pub file_only : (file : List ℕ) → IsFile objects root file → (a : Result (List ℕ) NodeFault) → IsFileResult objects root a → IsOrNoMemory a (Ok file)
   file_only file h (Ok f) s = inl (ap Ok (one_file f file s.0 h.0))
   file_only file h (Err (Absent id)) s = not_both file _ h.0 s
   file_only file h (Err TooHigh) s = not_both file _ h.0 s
@@ -119,7 +119,7 @@ module _ (objects : List StoredObject) (root : ExGuid) where
   file_only file h (Err TooLarge) s = let e = one_file s.0 file s.1 h.0 in absurd (omega (arith, h.1, s.2, ap (λ (l : List ℕ). length l) e))
   file_only file h (Err NoMemory) s = inr refl
 
-  pub large_only : IsTooLarge objects root → (a : Result (List ℕ) NodeFault) → IsFileAnswer objects root a → IsOrNoMemory a (Err TooLarge)
+  pub large_only : IsTooLarge objects root → (a : Result (List ℕ) NodeFault) → IsFileResult objects root a → IsOrNoMemory a (Err TooLarge)
   large_only h (Ok f) s = let e = one_file f h.0 s.0 h.1 in absurd (omega (arith, s.1, h.2, ap (λ (l : List ℕ). length l) e))
   large_only h (Err (Absent id)) s = not_both h.0 _ h.1 s
   large_only h (Err TooHigh) s = not_both h.0 _ h.1 s
@@ -128,7 +128,7 @@ module _ (objects : List StoredObject) (root : ExGuid) where
   large_only h (Err TooLarge) s = inl refl
   large_only h (Err NoMemory) s = inr refl
 
-  pub fault_only : (fault : NodeFault) → first_fault objects root ≡ Some fault → (a : Result (List ℕ) NodeFault) → IsFileAnswer objects root a → IsOrNoMemory a (Err fault)
+  pub fault_only : (fault : NodeFault) → first_fault objects root ≡ Some fault → (a : Result (List ℕ) NodeFault) → IsFileResult objects root a → IsOrNoMemory a (Err fault)
   fault_only fault h (Ok f) s = not_both f fault s.0 h
   fault_only fault h (Err (Absent id)) s = inl (one_fault _ fault s h)
   fault_only fault h (Err TooHigh) s = inl (one_fault _ fault s h)
@@ -138,9 +138,9 @@ module _ (objects : List StoredObject) (root : ExGuid) where
   fault_only fault h (Err NoMemory) s = inr refl
 
   -- an answer that is the one of the objects, unless memory was wanting
-  pub answer_of : (r : Result (List ℕ) NodeFault) → IsOrNoMemory r (file_answer objects root) → IsFileAnswer objects root r
-  answer_of r (inl e) = subst (IsFileAnswer objects root) (sym e) (answer_said objects root)
-  answer_of r (inr e) = subst (IsFileAnswer objects root) (sym e) tt
+  pub answer_of : (r : Result (List ℕ) NodeFault) → IsOrNoMemory r (file_answer objects root) → IsFileResult objects root r
+  answer_of r (inl e) = subst (IsFileResult objects root) (sym e) (answer_said objects root)
+  answer_of r (inr e) = subst (IsFileResult objects root) (sym e) tt
 
 -- ---- the code's cases
 
@@ -158,8 +158,8 @@ of_list list objects root r e h = subst (λ (l : List StoredObject). IsOrNoMemor
 
 -- what an answer says, both ways
 module _ (objects : List StoredObject) (root : ExGuid) (r : Result (List ℕ) NodeFault) (is : IsOrNoMemory r (file_answer objects root)) where
-  said : (a : Result (List ℕ) NodeFault) → r ≡ a → IsFileAnswer objects root a
-  said a e = subst (IsFileAnswer objects root) e (answer_of objects root r is)
+  said : (a : Result (List ℕ) NodeFault) → r ≡ a → IsFileResult objects root a
+  said a e = subst (IsFileResult objects root) e (answer_of objects root r is)
 
   pub exactly_file : (file : List ℕ) → Exactly r (Ok file) (IsFile objects root file)
   exactly_file file = (λ e. said (Ok file) e, λ h. file_only objects root file h r (answer_of objects root r is))

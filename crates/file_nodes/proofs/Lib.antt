@@ -9,7 +9,7 @@ pub mod FileJoins
 pub mod FileAnswerLaws
 pub mod LengthLaws
 pub mod PieceLaws
-pub mod PartLaws
+pub mod ChunkLaws
 pub mod FindLaws
 pub mod FileLaw
 pub mod ChunkedFile

@@ -6,9 +6,9 @@ use Rattle.std.proofs.lemmas.List.{length-take, length-map}
 use Rattle.compact_values.specs.declared.guid.Guid.{Guid}
 use Rattle.doc_model.specs.declared.element.Object.{Object}
 use Rattle.file_nodes.specs.Pieces.{pieces_within, pieces}
-use Rattle.file_nodes.specs.Chunking.{Part, leaf, node, numbered, objects_of, levels_within, leaves, levels, file_objects}
+use Rattle.file_nodes.specs.Chunking.{Chunk, leaf, node, numbered, objects_of, levels_within, leaves, levels, file_objects}
 use Rattle.file_nodes.proofs.PieceLaws.{length-pieces}
-use Rattle.file_nodes.proofs.PartLaws.{length-numbered}
+use Rattle.file_nodes.proofs.ChunkLaws.{length-numbered}
 
 -- no piece is longer than it may be
 pub pieces_are_short : {X : Type 0} (a n : ℕ) (xs : List X) → AllByRecursion (λ p. length p ≤ n) (pieces_within a n xs)
@@ -20,7 +20,7 @@ pieces_are_short {X} (suc a) n (x ∷ xs) = (omega (arith, length-take n (x ∷ 
 abbrev HaveFew : List Object → Type 0
 HaveFew os = AllByRecursion (λ o. length o.references ≤ 64) os
 
-each-append : (ps qs : List Part) → HaveFew (objects_of ps) → HaveFew (objects_of qs) → HaveFew (objects_of (ps ++ qs))
+each-append : (ps qs : List Chunk) → HaveFew (objects_of ps) → HaveFew (objects_of qs) → HaveFew (objects_of (ps ++ qs))
 each-append [] qs f g = g
 each-append (p ∷ ps) qs f g = (f.0, each-append ps qs f.1 g)
 
@@ -28,12 +28,12 @@ few-leaves : (guid : Guid) (v : ℕ) (ps : List (List ℕ)) → HaveFew (objects
 few-leaves guid v [] = tt
 few-leaves guid v (p ∷ ps) = (omega arith, few-leaves guid (v + 1) ps)
 
-few-nodes : (guid : Guid) (v : ℕ) (groups : List (List Part)) → AllByRecursion (λ g. length g ≤ 64) groups → HaveFew (objects_of (numbered (node 0x1F guid) v groups))
+few-nodes : (guid : Guid) (v : ℕ) (groups : List (List Chunk)) → AllByRecursion (λ g. length g ≤ 64) groups → HaveFew (objects_of (numbered (node 0x1F guid) v groups))
 few-nodes guid v [] f = tt
-few-nodes guid v (g ∷ groups) f = (omega (arith, f.0, length-map g (λ (p : Part). p.object.id)), few-nodes guid (v + 1) groups f.1)
+few-nodes guid v (g ∷ groups) f = (omega (arith, f.0, length-map g (λ (p : Chunk). p.object.id)), few-nodes guid (v + 1) groups f.1)
 
 -- a level's count is enough to come to a level of at most 64 parts
-pub few-top : (count : ℕ) (guid : Guid) (v : ℕ) (level : List Part) → length level ≤ count → length (levels_within count guid v level).top ≤ 64
+pub few-top : (count : ℕ) (guid : Guid) (v : ℕ) (level : List Chunk) → length level ≤ count → length (levels_within count guid v level).top ≤ 64
 unfolding levels_within
 few-top zero guid v level f = omega arith
 few-top (suc count) guid v level f = elim (cases_lt 64 (length level)) [
@@ -45,7 +45,7 @@ few-top (suc count) guid v level f = elim (cases_lt 64 (length level)) [
   | inr few ↦ rw (le-leb (length level) 64 few) few
 ]
 
-few-all : (count : ℕ) (guid : Guid) (v : ℕ) (level : List Part) → HaveFew (objects_of level) → HaveFew (objects_of (levels_within count guid v level).all)
+few-all : (count : ℕ) (guid : Guid) (v : ℕ) (level : List Chunk) → HaveFew (objects_of level) → HaveFew (objects_of (levels_within count guid v level).all)
 unfolding levels_within
 few-all zero guid v level f = f
 few-all (suc count) guid v level f = elim (cases_lt 64 (length level)) [
@@ -62,6 +62,6 @@ pub few-references : (bytes : List ℕ) (guid : Guid) (v : ℕ) → AllByRecursi
 few-references bytes guid v =
     let level = leaves bytes guid (v + 1) in
     let top = few-top (length level) guid (v + 1) level (omega arith) in (
-      omega (arith, top, length-map (levels bytes guid (v + 1)).top (λ (p : Part). p.object.id)),
+      omega (arith, top, length-map (levels bytes guid (v + 1)).top (λ (p : Chunk). p.object.id)),
       few-all (length level) guid (v + 1) level (few-leaves guid (v + 1) (pieces 65536 bytes)),
     )

@@ -28,19 +28,19 @@ abbrev pub IsTooLarge : List StoredObject → ExGuid → Type 0
 IsTooLarge objects root = (file : List ℕ) × (stored_file objects root ≡ Some file) × (most_file < length file)
 
 -- What an answer says. A fault of the walk is the first one.
-abbrev pub IsFileAnswer : List StoredObject → ExGuid → Result (List ℕ) NodeFault → Type 0
-IsFileAnswer objects root (Ok file) = IsFile objects root file
-IsFileAnswer objects root (Err (Absent id)) = first_fault objects root ≡ Some (Absent id)
-IsFileAnswer objects root (Err TooHigh) = first_fault objects root ≡ Some TooHigh
-IsFileAnswer objects root (Err (NotANode id)) = first_fault objects root ≡ Some (NotANode id)
-IsFileAnswer objects root (Err (SizeDiffers said found)) = first_fault objects root ≡ Some (SizeDiffers said found)
-IsFileAnswer objects root (Err TooLarge) = IsTooLarge objects root
-IsFileAnswer objects root (Err NoMemory) = Unit {0}
+abbrev pub IsFileResult : List StoredObject → ExGuid → Result (List ℕ) NodeFault → Type 0
+IsFileResult objects root (Ok file) = IsFile objects root file
+IsFileResult objects root (Err (Absent id)) = first_fault objects root ≡ Some (Absent id)
+IsFileResult objects root (Err TooHigh) = first_fault objects root ≡ Some TooHigh
+IsFileResult objects root (Err (NotANode id)) = first_fault objects root ≡ Some (NotANode id)
+IsFileResult objects root (Err (SizeDiffers said found)) = first_fault objects root ≡ Some (SizeDiffers said found)
+IsFileResult objects root (Err TooLarge) = IsTooLarge objects root
+IsFileResult objects root (Err NoMemory) = Unit {0}
 
 -- The same of its length alone: how long the file is, or the fault for which there is none.
-abbrev pub IsLengthAnswer : List StoredObject → ExGuid → Result ℕ NodeFault → Type 0
-IsLengthAnswer objects root (Ok size) = (file : List ℕ) × IsFile objects root file × (size ≡ length file)
-IsLengthAnswer objects root (Err fault) = IsFileAnswer objects root (Err fault)
+abbrev pub IsLengthResult : List StoredObject → ExGuid → Result ℕ NodeFault → Type 0
+IsLengthResult objects root (Ok size) = (file : List ℕ) × IsFile objects root file × (size ≡ length file)
+IsLengthResult objects root (Err fault) = IsFileResult objects root (Err fault)
 
 -- The answer is this one, unless memory was wanting.
 abbrev pub IsOrNoMemory : {A : Type 0} → Result A NodeFault → Result A NodeFault → Type 0
@@ -58,5 +58,5 @@ length_said (Err fault) = Err fault
 -- An answer that says the length is that of any answer that says the file, where memory suffices for both.
 abbrev pub LengthOfTheFile : Type 0
 LengthOfTheFile =
-    (objects : List StoredObject) (root : ExGuid) (size : Result ℕ NodeFault) (file : Result (List ℕ) NodeFault) → IsLengthAnswer objects root size
-    → IsFileAnswer objects root file → size ≢ Err NoMemory → file ≢ Err NoMemory → size ≡ length_said file
+    (objects : List StoredObject) (root : ExGuid) (size : Result ℕ NodeFault) (file : Result (List ℕ) NodeFault) → IsLengthResult objects root size
+    → IsFileResult objects root file → size ≢ Err NoMemory → file ≢ Err NoMemory → size ≡ length_said file

@@ -1,7 +1,7 @@
 //! How long the file is that objects stand for.
 
 ghost use Rattle.std.specs.Prelude.{◌≡◌, map, slice_get, Some, Ok, Err};
-ghost use Rattle.file_nodes.specs.FileAnswers.{IsLengthAnswer, IsOrNoMemory};
+ghost use Rattle.file_nodes.specs.FileAnswers.{IsLengthResult, IsOrNoMemory};
 ghost use Rattle.file_nodes.specs.Links.{link_of, below_table, node_length, length_answer};
 
 use crate::fault::NodeFault;
@@ -15,7 +15,7 @@ use std::alloc::Global;
 
 /// How long the file of a root is, where `file_of` answers it, and the same fault where it doesn't. Nothing is joined for it.
 pub fn file_length(alloc: Global, objects: &ObjectMap<'_>, root: &ExGuid) -> Result<u64, NodeFault>
-    ensures { IsLengthAnswer objects.now root.now result }
+    ensures { IsLengthResult objects.now root.now result }
 {
     stored_length(alloc, objects.as_slice(), *root)
 }

@@ -1,7 +1,7 @@
 -- What a call does, by whether its change was kept.
 use Rattle.std.proofs.Common.{◌≡◌, ℕ, Bool, List, [], ◌++◌, Option, Result, Err, inl, refl, sym, ap, subst, ◌∙◌}
 use Rattle.std.proofs.lemmas.List.{append-nil}
-use Rattle.doc_model.specs.rules.Turns.{Turn}
+use Rattle.doc_model.specs.rules.Effects.{Effect}
 use Rattle.doc_model.specs.declared.call.Call.{Call}
 use Rattle.doc_model.specs.declared.doc.Doc.{Doc}
 use Rattle.doc_model.specs.declared.reply.Submitted.{Submitted}
@@ -19,11 +19,11 @@ unkept_cause before now count moved moves DiskFault e h = record { later = h.lat
 unkept_cause before now count moved moves JournalFull e h = record { later = h.later; cause = (sym e ∙ h.cause.0, h.cause.1, h.cause.2) }
 unkept_cause before now count moved moves NoMemory e h = record { later = h.later; cause = h.cause }
 
-pub unkept_answer : (before now count : ℕ) (moved : Bool) (s : Submitted) (turn : Turn) (old new : Doc) → new ≡ old → Unkept before now moved count s → IsAnswered turn old new s
-unkept_answer before now count moved (Answered reply) turn old new e h = absurd h.cause
-unkept_answer before now count moved DiskFault turn old new e h = e
-unkept_answer before now count moved JournalFull turn old new e h = e
-unkept_answer before now count moved NoMemory turn old new e h = e
+pub unkept_answer : (before now count : ℕ) (moved : Bool) (s : Submitted) (effect : Effect) (old new : Doc) → new ≡ old → Unkept before now moved count s → IsAnswered effect old new s
+unkept_answer before now count moved (Answered reply) effect old new e h = absurd h.cause
+unkept_answer before now count moved DiskFault effect old new e h = e
+unkept_answer before now count moved JournalFull effect old new e h = e
+unkept_answer before now count moved NoMemory effect old new e h = e
 
 pub unkept_told : (before now count : ℕ) (moved moves : Bool) (s : Submitted) → moved ≡ moves → Unkept before now moved count s → IsTold moves moved s
 unkept_told before now count moved moves (Answered reply) e h = e

@@ -78,7 +78,7 @@ module _ {C D : Type 0} (doc : C → Doc) (may_leave : D → List ℕ → Type 0
     A = (era events).calls
 
     -- the call moved and was kept
-    acknowledged : IsKeepable call → (turn_is : doc new.core ≡ (apply (doc old.core) call).doc) → new.kept.journal.guid ≡ old.kept.journal.guid → tried_of new.kept ≡ None → IsStanding may_leave new.kept (A ++ call ∷ [])
+    acknowledged : IsKeepable call → (effect_is : doc new.core ≡ (apply (doc old.core) call).doc) → new.kept.journal.guid ≡ old.kept.journal.guid → tried_of new.kept ≡ None → IsStanding may_leave new.kept (A ++ call ∷ [])
         → InEra doc may_leave new (events ++ Acknowledged call ∷ [])
     unfolding A
     acknowledged one d g t s =

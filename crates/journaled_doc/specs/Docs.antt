@@ -5,7 +5,7 @@ use Rattle.host_edge.specs.Disks.{LeavesOnly}
 use Rattle.doc_model.specs.rules.Apply.{apply, replay}
 use Rattle.doc_model.specs.rules.Histories.{History, EachMoves}
 use Rattle.doc_model.specs.rules.Limits.{most_bodies}
-use Rattle.doc_model.specs.rules.Turns.{Turn}
+use Rattle.doc_model.specs.rules.Effects.{Effect}
 use Rattle.doc_model.specs.declared.call.Call.{Call}
 use Rattle.doc_model.specs.declared.doc.Doc.{Doc}
 use Rattle.doc_model.specs.declared.reply.Submitted.{Submitted}
@@ -22,11 +22,11 @@ use Rattle.journaled_doc.specs.declared.kept.Kept.{Kept}
 -- ---- one call
 
 -- the document afterwards, and the reply
-abbrev pub IsAnswered : Turn → Doc → Doc → Submitted → Type 0
-IsAnswered turn before after (Answered reply) = (reply ≡ turn.reply) × (after ≡ turn.doc)
-IsAnswered turn before after DiskFault = after ≡ before
-IsAnswered turn before after JournalFull = after ≡ before
-IsAnswered turn before after NoMemory = after ≡ before
+abbrev pub IsAnswered : Effect → Doc → Doc → Submitted → Type 0
+IsAnswered effect before after (Answered reply) = (reply ≡ effect.reply) × (after ≡ effect.doc)
+IsAnswered effect before after DiskFault = after ≡ before
+IsAnswered effect before after JournalFull = after ≡ before
+IsAnswered effect before after NoMemory = after ≡ before
 
 -- Why it isn't answered: the call moves, and the disk's count of faults rose, or the journal was full. Where it is answered no
 -- fault was passed over.

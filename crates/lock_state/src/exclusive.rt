@@ -1,7 +1,7 @@
 ghost use Rattle.doc_model.specs.declared.lock.LockRecord.TheVariants.{Exclusive};
 ghost use Rattle.doc_model.specs.declared.reply.Code.TheVariants.{NotLocked};
 ghost use Rattle.doc_model.specs.rules.LockSteps.{becomes, stays, refuses, on_exclusive};
-ghost use Rattle.coauth_state.specs.Turning.{IsTurn};
+ghost use Rattle.coauth_state.specs.PlannedEffects.{IsEffect};
 ghost use Rattle.lock_state.specs.Standing.{StandsExclusive};
 
 use coauth_state::{LockPlan, Standing};
@@ -27,7 +27,7 @@ fn exclusive_standing(lock: &LockRecord, id: Guid) -> Standing
 
 /// Takes the lock, or sets the end of one's own.
 pub fn take_exclusive(lock: LockRecord, id: Guid, until: u64) -> LockPlan
-    ensures { IsTurn lock (on_exclusive id lock (becomes (Exclusive id until)) (becomes (Exclusive id until))) result }
+    ensures { IsEffect lock (on_exclusive id lock (becomes (Exclusive id until)) (becomes (Exclusive id until))) result }
 {
     match exclusive_standing(&lock, id) {
         Standing::Free => LockPlan::change(lock, LockRecord::Exclusive { id, until }),
@@ -38,7 +38,7 @@ pub fn take_exclusive(lock: LockRecord, id: Guid, until: u64) -> LockPlan
 
 /// Changes one's own lock to another.
 pub fn change_exclusive(lock: LockRecord, id: Guid, after: LockRecord) -> LockPlan
-    ensures { IsTurn lock (on_exclusive id lock (refuses NotLocked) (becomes after)) result }
+    ensures { IsEffect lock (on_exclusive id lock (refuses NotLocked) (becomes after)) result }
 {
     match exclusive_standing(&lock, id) {
         Standing::Free => LockPlan::refuse(lock, Code::NotLocked),
@@ -49,7 +49,7 @@ pub fn change_exclusive(lock: LockRecord, id: Guid, after: LockRecord) -> LockPl
 
 /// Whether the lock can be taken under this id.
 pub fn check_exclusive(lock: LockRecord, id: Guid) -> LockPlan
-    ensures { IsTurn lock (on_exclusive id lock stays stays) result }
+    ensures { IsEffect lock (on_exclusive id lock stays stays) result }
 {
     match exclusive_standing(&lock, id) {
         Standing::Free => LockPlan::stay(lock),

@@ -1,7 +1,7 @@
 ghost use Rattle.std.specs.Prelude.{◌≡◌, ℕ, ◌+◌, ◌<◌, ◌^◌, IfOk, IfSome};
 ghost use Rattle.doc_model.specs.rules.Locks.{live};
-ghost use Rattle.doc_model.specs.rules.LockSteps.{lock_turn, timeout_of};
-ghost use Rattle.coauth_state.specs.Turning.{IsTurn};
+ghost use Rattle.doc_model.specs.rules.LockSteps.{lock_effect, timeout_of};
+ghost use Rattle.coauth_state.specs.PlannedEffects.{IsEffect};
 
 use crate::exclusive::{change_exclusive, check_exclusive, take_exclusive};
 use coauth_state::{LockPlan, live, one_member, shared};
@@ -17,7 +17,7 @@ pub fn step(
     step: &LockStep,
 ) -> Result<LockPlan, NoMemory>
     requires { IfSome (timeout_of step.now) (λ t. moment + t < 2 ^ 64) }
-    ensures { IfOk result (λ plan. IsTurn (live lock.now moment) (lock_turn moment step.now (live lock.now moment)) plan) }
+    ensures { IfOk result (λ plan. IsEffect (live lock.now moment) (lock_effect moment step.now (live lock.now moment)) plan) }
 {
     match *step {
         LockStep::TakeExclusive { id, timeout } => {

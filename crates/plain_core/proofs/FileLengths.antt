@@ -9,7 +9,7 @@ use Rattle.doc_model.specs.rules.Files.{file, file_of_chain, root_chain, root_ob
 use Rattle.doc_model.specs.rules.Finding.{Manifest}
 use Rattle.doc_model.specs.rules.Limits.{most_file}
 use Rattle.doc_model.specs.rules.Reached.{absent}
-use Rattle.file_nodes.specs.FileAnswers.{Agrees, IsLengthAnswer, stored_file}
+use Rattle.file_nodes.specs.FileAnswers.{Agrees, IsLengthResult, stored_file}
 use Rattle.file_nodes.specs.FileWalks.{fault_of, first_fault, walk_root}
 use Rattle.file_nodes.specs.declared.fault.NodeFault.{NodeFault}
 use Rattle.file_nodes.specs.declared.fault.NodeFault.TheVariants as faults
@@ -37,7 +37,7 @@ module _ (objects : List StoredObject) (root : ExGuid) where
       → cond large TooLarge (Known (length file)) ≡ length_of_file (stored_file objects root)
   file-found file large e test = sym (ap length_of_file e ∙ ap (λ (b : Bool). cond b TooLarge (Known (length file))) test)
 
-  root-length : (found : Result ℕ NodeFault) → IsLengthAnswer objects root found → IfOk (length_answered found) (λ length. length ≡ length_of_file (stored_file objects root))
+  root-length : (found : Result ℕ NodeFault) → IsLengthResult objects root found → IfOk (length_answered found) (λ length. length ≡ length_of_file (stored_file objects root))
   root-length (Ok size) h = ap Known h.2 ∙ file-found h.0 false h.1.0 (le-ltb most_file (length h.0) h.1.1)
   root-length (Err faults.TooLarge) h = file-found h.0 true h.1 (lt-ltb most_file (length h.0) h.2)
   root-length (Err faults.NoMemory) h = tt
@@ -48,7 +48,7 @@ module _ (objects : List StoredObject) (root : ExGuid) where
 
 -- the length of the file of the first root of these revisions
 pub chain-length : (added : List Element) (ms : List Manifest) (objects : List StoredObject) (root : ExGuid) (found : Result ℕ NodeFault) (given : Result FileLength NoMemory)
-    → objects ≡ objects_in added (groups_named ms) → Some root ≡ root_object ms → IsLengthAnswer objects root found → given ≡ length_answered found
+    → objects ≡ objects_in added (groups_named ms) → Some root ≡ root_object ms → IsLengthResult objects root found → given ≡ length_answered found
     → IfOk given (λ length. length ≡ length_of_file (file_with_bytes added ms))
 chain-length added ms objects root found given o r h g =
     subst (λ (x : Result FileLength NoMemory). IfOk x (λ length. length ≡ length_of_file (file_with_bytes added ms))) (sym g)

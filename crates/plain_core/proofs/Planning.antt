@@ -16,7 +16,7 @@ use Rattle.doc_model.specs.rules.Files.{file}
 use Rattle.doc_model.specs.rules.Limits.{most_file, most_reached_weight}
 use Rattle.doc_model.specs.rules.Puts.{commit_reasons, commit_refusal, committed, added_by, sent_to, fresh, has_chains, has_invalid, other_parts, too_large, too_much_added}
 use Rattle.doc_model.specs.rules.Reached.{absent, reached_from}
-use Rattle.doc_model.specs.rules.Turns.{first_refusal}
+use Rattle.doc_model.specs.rules.Effects.{first_refusal}
 use Rattle.doc_model.specs.rules.Versions.{added_by_restore, index_like, new_index, next_id, restore_refusal, restored}
 use Rattle.doc_model.specs.rules.Weights.{weight_of}
 use Rattle.doc_model.proofs.Reasons.{NoneHolds, none-holds, not-less, or-neither}

@@ -2,7 +2,7 @@
 ghost use Rattle.std.specs.Prelude.{◌≡◌, true, not, None, IfOk, option_map, find};
 ghost use Rattle.std.specs.List.{list_all};
 ghost use Rattle.doc_model.specs.rules.Reached.{absent, names};
-ghost use Rattle.doc_model.specs.rules.Turns.{first_refusal};
+ghost use Rattle.doc_model.specs.rules.Effects.{first_refusal};
 ghost use Rattle.plain_core.specs.Cataloging.{listed};
 ghost use Rattle.plain_core.specs.Refusing.{content_reasons, file_reasons};
 ghost use Rattle.plain_core.specs.Weighing.{all_few};

@@ -70,7 +70,7 @@ impl PlainCore {
     ghost use Rattle.doc_model.specs.rules.Drawing.{draw};
     ghost use Rattle.doc_model.specs.rules.Pulls.{pull};
     ghost use Rattle.doc_model.specs.rules.Sound.{Sound};
-    ghost use Rattle.doc_model.specs.rules.Turns.{reading};
+    ghost use Rattle.doc_model.specs.rules.Effects.{reading};
     ghost use Rattle.plain_core.specs.Keeping.{doc_of, has_places, has_room, joined, leads_to, may_join, planned_of};
 
     /// An empty document.

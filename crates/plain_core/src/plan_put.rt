@@ -2,7 +2,7 @@
 ghost use Rattle.std.specs.Prelude.{◌≡◌, ◌<◌, ◌≤◌, ◌^◌, ◌++◌, true, not, length, None, IfOk};
 ghost use Rattle.doc_model.specs.rules.Apply.{IsPlanned};
 ghost use Rattle.doc_model.specs.rules.Puts.{put, part_refusal, commit_refusal, kept, committed, added_by, sent_to, pending, other_parts};
-ghost use Rattle.doc_model.specs.rules.Turns.{first_refusal, unless};
+ghost use Rattle.doc_model.specs.rules.Effects.{first_refusal, unless};
 ghost use Rattle.plain_core.specs.Cataloging.{listed};
 ghost use Rattle.plain_core.specs.Keeping.{doc_of, leads_to, planned_of};
 ghost use Rattle.plain_core.specs.Refusing.{version_reasons, content_reasons};

@@ -3,7 +3,7 @@ ghost use Rattle.std.specs.Prelude.{◌≡◌, true, Some, IfOk};
 ghost use Rattle.doc_model.specs.rules.Apply.{IsPlanned};
 ghost use Rattle.doc_model.specs.rules.Editing.{is_alone};
 ghost use Rattle.doc_model.specs.rules.Files.{file};
-ghost use Rattle.doc_model.specs.rules.Turns.{reading};
+ghost use Rattle.doc_model.specs.rules.Effects.{reading};
 ghost use Rattle.doc_model.specs.rules.Versions.{last_file};
 ghost use Rattle.doc_model.specs.declared.reply.Reply.TheVariants.{VersionList, File, Lone, Me};
 ghost use Rattle.plain_core.specs.Keeping.{doc_of, planned_of};

@@ -4,7 +4,7 @@ ghost use Rattle.std.specs.Option.{MatchOption};
 ghost use Rattle.doc_model.specs.rules.Apply.{IsPlanned};
 ghost use Rattle.doc_model.specs.rules.Drawing.{last_number};
 ghost use Rattle.doc_model.specs.rules.Puts.{too_much_added, too_large};
-ghost use Rattle.doc_model.specs.rules.Turns.{unless, first_refusal};
+ghost use Rattle.doc_model.specs.rules.Effects.{unless, first_refusal};
 ghost use Rattle.doc_model.specs.rules.Versions.{version, restore, restore_refusal, restored, next_id, index_like};
 ghost use Rattle.doc_model.specs.declared.reply.Code.TheVariants as codes;
 ghost use Rattle.plain_core.specs.Cataloging.{listed};

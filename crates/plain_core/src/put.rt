@@ -5,7 +5,7 @@ ghost use Rattle.doc_model.specs.rules.Limits.{most_added, most_added_weight, mo
 ghost use Rattle.doc_model.specs.rules.Pulls.{ranges_of};
 ghost use Rattle.doc_model.specs.rules.Puts.{grown, has_invalid, is_invalid, too_many_parts, too_much_added, is_expected, is_committed, serials_of};
 ghost use Rattle.doc_model.specs.rules.Sound.{part_weight};
-ghost use Rattle.doc_model.specs.rules.Turns.{first_refusal};
+ghost use Rattle.doc_model.specs.rules.Effects.{first_refusal};
 ghost use Rattle.doc_model.specs.rules.Weights.{weight_of};
 ghost use Rattle.doc_model.specs.declared.reply.Code.TheVariants as codes;
 ghost use Rattle.plain_core.specs.Cataloging.{listed};

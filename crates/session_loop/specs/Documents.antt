@@ -1,7 +1,7 @@
 -- Documents that are kept in memory alone, and what their calls do with them.
 use Rattle.std.specs.Prelude.{◌≡◌, ℕ, ◌+◌, if◌then◌else◌}
 use Rattle.doc_model.specs.rules.Apply.{apply}
-use Rattle.doc_model.specs.rules.Turns.{Turn}
+use Rattle.doc_model.specs.rules.Effects.{Effect}
 use Rattle.doc_model.specs.declared.call.Call.{Call}
 use Rattle.doc_model.specs.declared.doc.Doc.{Doc}
 use Rattle.doc_model.specs.declared.reply.Submitted.{Submitted}
@@ -12,8 +12,8 @@ pub record Kept : Type 0 where
   pub doc : Doc
   pub front : ℕ
 
-abbrev pub changed : Kept → Turn → Kept
-changed k turn = record { doc = turn.doc; front = if turn.moved then k.front + 1 else k.front }
+abbrev pub changed : Kept → Effect → Kept
+changed k effect = record { doc = effect.doc; front = if effect.moved then k.front + 1 else k.front }
 
 -- A call is answered by its document as it then is; or it isn't answered, and the document is as it was.
 abbrev pub IsSubmitted : Kept → Call → Submitted → Kept → Type 0

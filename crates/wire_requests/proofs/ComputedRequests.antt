@@ -17,7 +17,7 @@ use Rattle.doc_model.specs.wire.Requests.{IsRequest}
 use Rattle.doc_model.specs.declared.request.CellRequest.{CellRequest}
 use Rattle.data_elements.specs.declared.wire_fault.WireFault.{WireFault}
 use Rattle.data_elements.specs.declared.wire_fault.WireFault.TheVariants as faults
-use Rattle.wire_requests.specs.RequestAnswers.{IsAnswer}
+use Rattle.wire_requests.specs.RequestAnswers.{IsResult}
 use Rattle.wire_requests.specs.RequestOf.{versions_fit, signature, has_front, tree_behind_front, if_few, request_of, Computes}
 use Rattle.wire_requests.specs.RequestReading.{request_at}
 use Rattle.wire_requests.proofs.OneAnswer.{says, one_only, no_request}
@@ -101,11 +101,11 @@ module _ (bytes : List ℕ) (fits : IsBytes bytes) where
     go (Some r) e = absurd (none r (computed_is r e))
     go None e = e
 
-  refused : (f : WireFault) → IsAnswer bytes (Err f) → f ≢ faults.NoMemory → request_of bytes ≡ None
+  refused : (f : WireFault) → IsResult bytes (Err f) → f ≢ faults.NoMemory → request_of bytes ≡ None
   refused f a some = none_is_computed (no_request bytes f (one_only bytes fits (Err f) a) some)
 
   -- what a reader answers is computed
-  pub answer_is_computed : (x : Result CellRequest WireFault) → IsAnswer bytes x → Computes x (request_of bytes)
+  pub answer_is_computed : (x : Result CellRequest WireFault) → IsResult bytes x → Computes x (request_of bytes)
   answer_is_computed (Ok r) a = request_is_computed r a
   answer_is_computed (Err faults.BadFront) a = refused faults.BadFront a (λ e. absurd cc)
   answer_is_computed (Err faults.BadSignature) a = refused faults.BadSignature a (λ e. absurd cc)

@@ -14,12 +14,12 @@ use Rattle.stream_objects.proofs.Stops.{one_answer, object_inside}
 use Rattle.stream_objects.proofs.Broken.{Judges, one_broken, none_broken}
 use Rattle.doc_model.specs.wire.Fronts.{HasVersions, HasSignature}
 use Rattle.doc_model.specs.wire.Requests.{SaysRequest, IsRequest}
-use Rattle.doc_model.specs.readers.RequestParts.{InOwnForm, part_start, request_parts}
+use Rattle.doc_model.specs.readers.RequestSites.{InOwnForm, site_start, request_sites}
 use Rattle.doc_model.specs.declared.request.CellRequest.{CellRequest}
 use Rattle.data_elements.specs.declared.wire_fault.WireFault.{WireFault}
 use Rattle.data_elements.specs.declared.wire_fault.WireFault.TheVariants as faults
 use Rattle.wire_requests.specs.RequestReading.{request_at}
-use Rattle.wire_requests.specs.RequestAnswers.{IsFramed, IsAnswer, IsOnlyAnswer, GivesRequest}
+use Rattle.wire_requests.specs.RequestAnswers.{IsFramed, IsResult, IsOnlyResult, GivesRequest}
 use Rattle.wire_requests.proofs.RequestLaws.{judges_request, again_request}
 
 module _ (bytes : List ℕ) (fits : IsBytes bytes) where
@@ -27,7 +27,7 @@ module _ (bytes : List ℕ) (fits : IsBytes bytes) where
   Answer = Result CellRequest WireFault
 
   -- one tree, or one fault, stands behind the front
-  one_stands : HasVersions bytes → (a b : Result (Tree × ℕ) TreeFault) → stream.IsAnswer bytes 12 a → stream.IsAnswer bytes 12 b → a ≢ Err trees.NoMemory → b ≢ Err trees.NoMemory → a ≡ b
+  one_stands : HasVersions bytes → (a b : Result (Tree × ℕ) TreeFault) → stream.IsResult bytes 12 a → stream.IsResult bytes 12 b → a ≢ Err trees.NoMemory → b ≢ Err trees.NoMemory → a ≡ b
   one_stands v a b p q x y = one_answer bytes 12 v.long a b p q x y
 
   found : Tree → ℕ → Result (Tree × ℕ) TreeFault
@@ -67,7 +67,7 @@ module _ (bytes : List ℕ) (fits : IsBytes bytes) where
   -- ---- the answer of a tree that takes all of the input
 
   abbrev J : Tree → Result CellRequest ℕ → Type 0
-  J t = Judges (InOwnForm bytes) part_start (SaysRequest bytes t) (request_parts bytes t)
+  J t = Judges (InOwnForm bytes) site_start (SaysRequest bytes t) (request_sites bytes t)
 
   pub says : (t : Tree) (r : CellRequest) → request_at bytes t ≡ Ok r → SaysRequest bytes t r
   says t r e = go (request_at bytes t) e (judges_request bytes fits t) where
@@ -75,13 +75,13 @@ module _ (bytes : List ℕ) (fits : IsBytes bytes) where
     go (Ok s) e j = let same : s ≡ r = cc in subst (SaysRequest bytes t) same j.0
     go (Err place) e j = absurd cc
 
-  breaks : (t : Tree) (place : ℕ) → request_at bytes t ≡ Err place → IsFirstBroken (InOwnForm bytes) part_start (request_parts bytes t) place
+  breaks : (t : Tree) (place : ℕ) → request_at bytes t ≡ Err place → IsFirstBroken (InOwnForm bytes) site_start (request_sites bytes t) place
   breaks t place e = go (request_at bytes t) e (judges_request bytes fits t) where
-    go : (x : Result CellRequest ℕ) → x ≡ Err place → J t x → IsFirstBroken (InOwnForm bytes) part_start (request_parts bytes t) place
+    go : (x : Result CellRequest ℕ) → x ≡ Err place → J t x → IsFirstBroken (InOwnForm bytes) site_start (request_sites bytes t) place
     go (Ok s) e j = absurd cc
-    go (Err p) e j = let same : p ≡ place = cc in subst (IsFirstBroken (InOwnForm bytes) part_start (request_parts bytes t)) same j
+    go (Err p) e j = let same : p ≡ place = cc in subst (IsFirstBroken (InOwnForm bytes) site_start (request_sites bytes t)) same j
 
-  pub answer_is : HasVersions bytes → HasSignature bytes → (t : Tree) → IsTreeAt bytes t 12 (length bytes) → (x : Answer) → GivesRequest x (request_at bytes t) → IsAnswer bytes x
+  pub answer_is : HasVersions bytes → HasSignature bytes → (t : Tree) → IsTreeAt bytes t 12 (length bytes) → (x : Answer) → GivesRequest x (request_at bytes t) → IsResult bytes x
   answer_is v s t at (Ok r) g = record { versions = v; signature = s; tree = t; stands = at; form = says t r g.0; few_elements = g.1 }
   answer_is v s t at (Err (faults.SchemaFault place)) g = (t, record { versions = v; signature = s; stands = at }, breaks t place g)
   answer_is v s t at (Err faults.TooMany) g = (t, record { versions = v; signature = s; stands = at }, (g.0, says t g.0 g.1, g.2))
@@ -104,25 +104,25 @@ module _ (bytes : List ℕ) (fits : IsBytes bytes) where
       let e : request_at bytes t ≡ request_at bytes u = ap (request_at bytes) same in
       cc
 
-  form_or_broken : (t u : Tree) → IsFramed bytes t → IsFramed bytes u → (x : CellRequest) (place : ℕ) → SaysRequest bytes t x → IsFirstBroken (InOwnForm bytes) part_start (request_parts bytes u) place → ⊥
+  form_or_broken : (t u : Tree) → IsFramed bytes t → IsFramed bytes u → (x : CellRequest) (place : ℕ) → SaysRequest bytes t x → IsFirstBroken (InOwnForm bytes) site_start (request_sites bytes u) place → ⊥
   form_or_broken t u p q x place f b = go (request_at bytes t) (again_request bytes fits t x f) (judges_request bytes fits t) where
     go : (r : Result CellRequest ℕ) → r ≡ Ok x → J t r → ⊥
     go (Ok s) e j =
-        none_broken (InOwnForm bytes) part_start (request_parts bytes t) place j.1
-        (subst (λ (w : Tree). IsFirstBroken (InOwnForm bytes) part_start (request_parts bytes w) place) (sym (same_whole t u p q)) b)
+        none_broken (InOwnForm bytes) site_start (request_sites bytes t) place j.1
+        (subst (λ (w : Tree). IsFirstBroken (InOwnForm bytes) site_start (request_sites bytes w) place) (sym (same_whole t u p q)) b)
     go (Err n) e j = absurd cc
 
-  both_broken : (t u : Tree) → IsFramed bytes t → IsFramed bytes u → (m n : ℕ) → IsFirstBroken (InOwnForm bytes) part_start (request_parts bytes t) m → IsFirstBroken (InOwnForm bytes) part_start (request_parts bytes u) n → m ≡ n
+  both_broken : (t u : Tree) → IsFramed bytes t → IsFramed bytes u → (m n : ℕ) → IsFirstBroken (InOwnForm bytes) site_start (request_sites bytes t) m → IsFirstBroken (InOwnForm bytes) site_start (request_sites bytes u) n → m ≡ n
   both_broken t u p q m n a b =
-      one_broken (InOwnForm bytes) part_start (request_parts bytes t) m n a
-      (subst (λ (w : Tree). IsFirstBroken (InOwnForm bytes) part_start (request_parts bytes w) n) (sym (same_whole t u p q)) b)
+      one_broken (InOwnForm bytes) site_start (request_sites bytes t) m n a
+      (subst (λ (w : Tree). IsFirstBroken (InOwnForm bytes) site_start (request_sites bytes w) n) (sym (same_whole t u p q)) b)
 
   -- What is answered where the front is that of a request, without the front.
   abbrev Framed : Answer → Type 0
   Framed (Ok r) = (t : Tree) × IsFramed bytes t × (SaysRequest bytes t r × (length r.elements ≤ 8192))
   Framed (Err (faults.TreeFault f)) = IsFaultAt bytes 12 f × (f ≢ trees.NoMemory)
   Framed (Err (faults.Extra place)) = (place < length bytes) × ((t : Tree) × IsTreeAt bytes t 12 place)
-  Framed (Err (faults.SchemaFault place)) = (t : Tree) × IsFramed bytes t × IsFirstBroken (InOwnForm bytes) part_start (request_parts bytes t) place
+  Framed (Err (faults.SchemaFault place)) = (t : Tree) × IsFramed bytes t × IsFirstBroken (InOwnForm bytes) site_start (request_sites bytes t) place
   Framed (Err faults.TooMany) = (t : Tree) × IsFramed bytes t × ((r : CellRequest) × SaysRequest bytes t r × (8192 < length r.elements))
   Framed (Err faults.BadFront) = ⊥
   Framed (Err faults.BadSignature) = ⊥
@@ -132,7 +132,7 @@ module _ (bytes : List ℕ) (fits : IsBytes bytes) where
   framed r q = record { versions = q.versions; signature = q.signature; stands = q.stands }
 
   -- an answer but for want of memory is about the front, or it is behind one
-  sorted : (y : Answer) → IsAnswer bytes y → y ≢ Err faults.NoMemory → ((y ≡ Err faults.BadFront) × (¬ HasVersions bytes)) ⊎ ((HasVersions bytes × ((y ≡ Err faults.BadSignature) × (¬ HasSignature bytes))) ⊎ (HasVersions bytes × (HasSignature bytes × Framed y)))
+  sorted : (y : Answer) → IsResult bytes y → y ≢ Err faults.NoMemory → ((y ≡ Err faults.BadFront) × (¬ HasVersions bytes)) ⊎ ((HasVersions bytes × ((y ≡ Err faults.BadSignature) × (¬ HasSignature bytes))) ⊎ (HasVersions bytes × (HasSignature bytes × Framed y)))
   sorted (Ok r) q some = inr (inr (q.versions, (q.signature, (q.tree, framed r q, (q.form, q.few_elements)))))
   sorted (Err faults.BadFront) q some = inl (refl, q)
   sorted (Err faults.BadSignature) q some = inr (inl (q.0, (refl, q.1)))
@@ -178,7 +178,7 @@ module _ (bytes : List ℕ) (fits : IsBytes bytes) where
   one_framed v x (Err faults.BadSignature) p q = absurd q
   one_framed v x (Err faults.NoMemory) p q = absurd q
 
-  one_of_two : (x y : Answer) → IsAnswer bytes x → IsAnswer bytes y → x ≢ Err faults.NoMemory → y ≢ Err faults.NoMemory → x ≡ y
+  one_of_two : (x y : Answer) → IsResult bytes x → IsResult bytes y → x ≢ Err faults.NoMemory → y ≢ Err faults.NoMemory → x ≡ y
   one_of_two x y p q a b =
       elim (sorted x p a) [
         | inl r ↦ elim (sorted y q b) [ inl s ↦ cc | inr (inl s) ↦ absurd (r.1 s.0) | inr (inr s) ↦ absurd (r.1 s.0) ]
@@ -186,7 +186,7 @@ module _ (bytes : List ℕ) (fits : IsBytes bytes) where
         | inr (inr r) ↦ elim (sorted y q b) [ inl s ↦ absurd (s.1 r.0) | inr (inl s) ↦ absurd (s.1.1 r.1.0) | inr (inr s) ↦ one_framed r.0 x y r.1.1 s.1.1 ]
       ]
 
-  pub one_only : (x : Answer) → IsAnswer bytes x → IsOnlyAnswer bytes x
+  pub one_only : (x : Answer) → IsResult bytes x → IsOnlyResult bytes x
   one_only (Err faults.NoMemory) p other q some = inl refl
   one_only x p other q some = inr (one_of_two x other p q (λ e. absurd cc) some)
 
@@ -200,7 +200,7 @@ all_bytes (b ∷ bytes) h zero = h.0
 all_bytes (b ∷ bytes) h (suc i) = all_bytes bytes h.1 i
 
 -- Where a fault other than want of memory is the only answer, the bytes are no request.
-pub no_request : (bytes : List ℕ) (fault : WireFault) → IsOnlyAnswer bytes (Err fault) → fault ≢ faults.NoMemory → (r : CellRequest) → IsRequest bytes r → ⊥
+pub no_request : (bytes : List ℕ) (fault : WireFault) → IsOnlyResult bytes (Err fault) → fault ≢ faults.NoMemory → (r : CellRequest) → IsRequest bytes r → ⊥
 no_request bytes fault only some r request = go (only (Ok r) request (λ e. absurd cc)) where
   failed : WireFault → Result CellRequest WireFault
   failed f = Err f

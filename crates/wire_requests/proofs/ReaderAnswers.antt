@@ -6,11 +6,11 @@ use Rattle.stream_objects.specs.Parts.{IsFirstBroken}
 use Rattle.stream_objects.proofs.Broken.{Judges, one_broken, none_broken}
 use Rattle.doc_model.specs.wire.Elements.{IsPackage}
 use Rattle.doc_model.specs.wire.Knowledges.{SaysKnowledge}
-use Rattle.doc_model.specs.readers.ElementParts as elements
-use Rattle.doc_model.specs.readers.KnowledgeParts as knowledges
+use Rattle.doc_model.specs.readers.ElementSites as elements
+use Rattle.doc_model.specs.readers.KnowledgeSites as knowledges
 use Rattle.doc_model.specs.declared.element.Element.{Element}
 use Rattle.doc_model.specs.declared.knowledge.Knowledge.{Knowledge}
-use Rattle.data_elements.specs.Answers.{IsPackageAnswer, IsKnowledgeAnswer}
+use Rattle.data_elements.specs.Answers.{IsPackageResult, IsKnowledgeResult}
 use Rattle.data_elements.specs.KnowledgeReading.{knowledge_at}
 use Rattle.data_elements.specs.Reading.{package_at}
 use Rattle.data_elements.specs.declared.fault.ElementFault.{ElementFault}
@@ -30,26 +30,26 @@ stops InForm start Is parts place b (Err n) j = ap (λ (k : ℕ). Err k) (one_br
 module _ (input : List ℕ) (fits : IsBytes input) (t : Tree) where
   -- ---- knowledge
 
-  known_stops : (place : ℕ) → IsFirstBroken (knowledges.InOwnForm input) knowledges.part_start (knowledges.knowledge_parts input t) place → knowledge_at input t ≡ Err place
-  known_stops place b = stops (knowledges.InOwnForm input) knowledges.part_start (SaysKnowledge input t) (knowledges.knowledge_parts input t) place b (knowledge_at input t) (judges_knowledge input fits t)
+  known_stops : (place : ℕ) → IsFirstBroken (knowledges.InOwnForm input) knowledges.site_start (knowledges.knowledge_sites input t) place → knowledge_at input t ≡ Err place
+  known_stops place b = stops (knowledges.InOwnForm input) knowledges.site_start (SaysKnowledge input t) (knowledges.knowledge_sites input t) place b (knowledge_at input t) (judges_knowledge input fits t)
 
   pub known : (k : Knowledge) → SaysKnowledge input t k.ranges → knowledge_of (knowledge_at input t) ≡ Ok k
   known k h = ap knowledge_of (again_knowledge input fits t k.ranges h)
 
-  pub not_known : (f : ElementFault) → IsKnowledgeAnswer input t (Err f) → Gives {V = Knowledge} (Err (wire_fault f)) (knowledge_of (knowledge_at input t))
+  pub not_known : (f : ElementFault) → IsKnowledgeResult input t (Err f) → Gives {V = Knowledge} (Err (wire_fault f)) (knowledge_of (knowledge_at input t))
   not_known (faults.SchemaFault place) a = ap knowledge_of (known_stops place a)
   not_known faults.TooMany a = absurd a
   not_known faults.NoMemory a = tt
 
   -- ---- elements
 
-  package_stops : (place : ℕ) → IsFirstBroken (elements.InOwnForm input) elements.part_start (elements.package_parts input t) place → package_at input t ≡ Err place
-  package_stops place b = stops (elements.InOwnForm input) elements.part_start (IsPackage input t) (elements.package_parts input t) place b (package_at input t) (judges_package input fits t)
+  package_stops : (place : ℕ) → IsFirstBroken (elements.InOwnForm input) elements.site_start (elements.package_sites input t) place → package_at input t ≡ Err place
+  package_stops place b = stops (elements.InOwnForm input) elements.site_start (IsPackage input t) (elements.package_sites input t) place b (package_at input t) (judges_package input fits t)
 
-  pub elements_are : (es : List Element) → IsPackageAnswer input t (Ok es) → GivesElements (Ok es) (package_at input t)
+  pub elements_are : (es : List Element) → IsPackageResult input t (Ok es) → GivesElements (Ok es) (package_at input t)
   elements_are es a = (again_package input fits t es a.0, a.1)
 
-  pub no_elements : (f : ElementFault) → IsPackageAnswer input t (Err f) → GivesElements (Err (wire_fault f)) (package_at input t)
+  pub no_elements : (f : ElementFault) → IsPackageResult input t (Err f) → GivesElements (Err (wire_fault f)) (package_at input t)
   no_elements (faults.SchemaFault place) a = package_stops place a
   no_elements faults.TooMany a = (a.0, again_package input fits t a.0 a.1, a.2)
   no_elements faults.NoMemory a = tt

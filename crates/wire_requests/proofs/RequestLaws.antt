@@ -16,10 +16,10 @@ use Rattle.stream_objects.specs.Gathering.{and_then, gather}
 use Rattle.stream_objects.proofs.Broken.{Judges, all-append, broken_left, broken_right}
 use Rattle.stream_objects.proofs.Children.{single_some, single_none}
 use Rattle.stream_objects.proofs.Standing.{filter_join}
-use Rattle.doc_model.specs.readers.ElementParts as elements
+use Rattle.doc_model.specs.readers.ElementSites as elements
 use Rattle.doc_model.specs.wire.Elements.{IsPackage}
 use Rattle.doc_model.specs.wire.Requests.{IsSub, is_put, puts_in, SaysRequest}
-use Rattle.doc_model.specs.readers.RequestParts.{Part, packed, part_start, sub_row, sub_parts, puts_with, child_parts, request_parts}
+use Rattle.doc_model.specs.readers.RequestSites.{Site, packed, site_start, sub_row, sub_sites, puts_with, child_sites, request_sites}
 use Rattle.doc_model.specs.declared.element.Element.{Element}
 use Rattle.doc_model.specs.declared.request.CellRequest.{CellRequest}
 use Rattle.doc_model.specs.declared.request.WireSub.{WireSub}
@@ -75,7 +75,7 @@ no_put : (s : WireSub) → is_put s.what ≡ false → puts_in (s ∷ []) ≡ 0
 no_put s n = rw n refl
 
 module _ (input : List ℕ) (fits : IsBytes input) where
-  abbrev Ours : Part → Type 0
+  abbrev Ours : Site → Type 0
   Ours = Own input fits
 
   -- how many puts there are with a sub-request
@@ -109,34 +109,34 @@ module _ (input : List ℕ) (fits : IsBytes input) where
   unfolding child_at
   child_other subs t n = rw n refl
 
-  parts_sub : (n m : ℕ) (t : Tree) (ts : List Tree) → is_kind 0x42 t ≡ true → child_parts input n m (t ∷ ts) ≡ sub_parts input n m t ++ child_parts input (suc n) (puts_with m (sub_row input t)) ts
+  parts_sub : (n m : ℕ) (t : Tree) (ts : List Tree) → is_kind 0x42 t ≡ true → child_sites input n m (t ∷ ts) ≡ sub_sites input n m t ++ child_sites input (suc n) (puts_with m (sub_row input t)) ts
   parts_sub n m t ts y = rw y refl
 
-  parts_other : (n m : ℕ) (t : Tree) (ts : List Tree) → is_kind 0x42 t ≡ false → is_kind 0x15 t ≡ false → child_parts input n m (t ∷ ts) ≡ child_parts input n m ts
+  parts_other : (n m : ℕ) (t : Tree) (ts : List Tree) → is_kind 0x42 t ≡ false → is_kind 0x15 t ≡ false → child_sites input n m (t ∷ ts) ≡ child_sites input n m ts
   parts_other n m t ts a b = rw (a, b) refl
 
   parts_package : (n m : ℕ) (t : Tree) (ts : List Tree) → is_kind 0x42 t ≡ false → is_kind 0x15 t ≡ true
-      → child_parts input n m (t ∷ ts) ≡ map packed (elements.package_parts input t) ++ child_parts input n m ts
+      → child_sites input n m (t ∷ ts) ≡ map packed (elements.package_sites input t) ++ child_sites input n m ts
   parts_package n m t ts a b = rw (a, b) refl
 
   -- the parts behind a sub-request
   parts_then : (t : Tree) (ts : List Tree) (subs : List WireSub) (s : WireSub) → is_kind 0x42 t ≡ true → IsSub input t s
-      → child_parts input (length subs) (puts_in subs) (t ∷ ts) ≡ sub_parts input (length subs) (puts_in subs) t ++ child_parts input (length (subs ++ s ∷ [])) (puts_in (subs ++ s ∷ [])) ts
+      → child_sites input (length subs) (puts_in subs) (t ∷ ts) ≡ sub_sites input (length subs) (puts_in subs) t ++ child_sites input (length (subs ++ s ∷ [])) (puts_in (subs ++ s ∷ [])) ts
   parts_then t ts subs s y h =
       parts_sub (length subs) (puts_in subs) t ts y
-      ∙ ap (λ (n : ℕ). sub_parts input (length subs) (puts_in subs) t ++ child_parts input n (puts_with (puts_in subs) (sub_row input t)) ts) (sym (length_one subs s))
-      ∙ ap (λ (m : ℕ). sub_parts input (length subs) (puts_in subs) t ++ child_parts input (length (subs ++ s ∷ [])) m ts) (sym (counted t s subs h))
+      ∙ ap (λ (n : ℕ). sub_sites input (length subs) (puts_in subs) t ++ child_sites input n (puts_with (puts_in subs) (sub_row input t)) ts) (sym (length_one subs s))
+      ∙ ap (λ (m : ℕ). sub_sites input (length subs) (puts_in subs) t ++ child_sites input (length (subs ++ s ∷ [])) m ts) (sym (counted t s subs h))
 
   -- Children without a package are read, and then the rest, which is judged behind any sub-requests.
   module _ {V : Type 0} (rest : List Tree) (next : List WireSub → Result V ℕ) (Is : List WireSub → V → Type 0)
-      (judges_rest : (all : List WireSub) → Judges Ours part_start (Is all) (child_parts input (length all) (puts_in all) rest) (next all)) where
+      (judges_rest : (all : List WireSub) → Judges Ours site_start (Is all) (child_sites input (length all) (puts_in all) rest) (next all)) where
     abbrev pub Done : List Tree → List WireSub → V → Type 0
     Done ts subs v = (all : List WireSub) × Behind ts subs all × Is all v
 
     abbrev JudgesThen : List Tree → List WireSub → Result V ℕ → Type 0
-    JudgesThen ts subs r = Judges Ours part_start (Done ts subs) (child_parts input (length subs) (puts_in subs) (ts ++ rest)) r
+    JudgesThen ts subs r = Judges Ours site_start (Done ts subs) (child_sites input (length subs) (puts_in subs) (ts ++ rest)) r
 
-    none_left : (subs : List WireSub) (r : Result V ℕ) → Judges Ours part_start (Is subs) (child_parts input (length subs) (puts_in subs) rest) r → JudgesThen [] subs r
+    none_left : (subs : List WireSub) (r : Result V ℕ) → Judges Ours site_start (Is subs) (child_sites input (length subs) (puts_in subs) rest) r → JudgesThen [] subs r
     none_left subs (Ok v) j = ((subs, record { new = []; all_are = sym (append-nil subs); each = tt; few = λ h. h; few_puts = λ h. h }, j.0), j.1)
     none_left subs (Err place) j = j
 
@@ -157,15 +157,15 @@ module _ (input : List ℕ) (fits : IsBytes input) where
         }
 
     behind_sub : (t : Tree) (ts : List Tree) (subs : List WireSub) (s : WireSub) → is_kind 0x42 t ≡ true → SubBehind input fits (length subs) (puts_in subs) t s
-        → AllByRecursion Ours (sub_parts input (length subs) (puts_in subs) t) → (r : Result V ℕ) → JudgesThen ts (subs ++ s ∷ []) r → JudgesThen (t ∷ ts) subs r
+        → AllByRecursion Ours (sub_sites input (length subs) (puts_in subs) t) → (r : Result V ℕ) → JudgesThen ts (subs ++ s ∷ []) r → JudgesThen (t ∷ ts) subs r
     behind_sub t ts subs s y h own (Ok v) j = (
       (j.0.0, with_sub t ts subs j.0.0 s y h j.0.1, j.0.2),
       subst (AllByRecursion Ours) (sym (parts_then t (ts ++ rest) subs s y h.is))
-          (all-append Ours part_start (sub_parts input (length subs) (puts_in subs) t) (child_parts input (length (subs ++ s ∷ [])) (puts_in (subs ++ s ∷ [])) (ts ++ rest)) own j.1),
+          (all-append Ours site_start (sub_sites input (length subs) (puts_in subs) t) (child_sites input (length (subs ++ s ∷ [])) (puts_in (subs ++ s ∷ [])) (ts ++ rest)) own j.1),
     )
     behind_sub t ts subs s y h own (Err place) j =
-        subst (λ (ps : List Part). IsFirstBroken Ours part_start ps place) (sym (parts_then t (ts ++ rest) subs s y h.is))
-        (broken_right Ours part_start (sub_parts input (length subs) (puts_in subs) t) (child_parts input (length (subs ++ s ∷ [])) (puts_in (subs ++ s ∷ [])) (ts ++ rest)) place own j)
+        subst (λ (ps : List Site). IsFirstBroken Ours site_start ps place) (sym (parts_then t (ts ++ rest) subs s y h.is))
+        (broken_right Ours site_start (sub_sites input (length subs) (puts_in subs) t) (child_sites input (length (subs ++ s ∷ [])) (puts_in (subs ++ s ∷ [])) (ts ++ rest)) place own j)
 
     behind_other : (t : Tree) (ts : List Tree) (subs : List WireSub) → is_kind 0x42 t ≡ false → is_kind 0x15 t ≡ false → (r : Result V ℕ) → JudgesThen ts subs r → JudgesThen (t ∷ ts) subs r
     behind_other t ts subs a b (Ok v) j =
@@ -178,14 +178,14 @@ module _ (input : List ℕ) (fits : IsBytes input) where
           few_puts = e.few_puts;
         } in
         ((j.0.0, same, j.0.2), subst (AllByRecursion Ours) (sym (parts_other (length subs) (puts_in subs) t (ts ++ rest) a b)) j.1)
-    behind_other t ts subs a b (Err place) j = subst (λ (ps : List Part). IsFirstBroken Ours part_start ps place) (sym (parts_other (length subs) (puts_in subs) t (ts ++ rest) a b)) j
+    behind_other t ts subs a b (Err place) j = subst (λ (ps : List Site). IsFirstBroken Ours site_start ps place) (sym (parts_other (length subs) (puts_in subs) t (ts ++ rest) a b)) j
 
     first_sub : (t : Tree) (ts : List Tree) (subs : List WireSub) → is_kind 0x42 t ≡ true → ((more : List WireSub) → JudgesThen ts more (and_then (Read ts more) next))
         → (r : Result WireSub ℕ) → JudgesSub input fits (length subs) (puts_in subs) t r → JudgesThen (t ∷ ts) subs (and_then (and_then (and_sub subs r) (λ more. Read ts more)) next)
     first_sub t ts subs y others (Ok s) j = behind_sub t ts subs s y j.0 j.1 (and_then (Read ts (subs ++ s ∷ [])) next) (others (subs ++ s ∷ []))
     first_sub t ts subs y others (Err place) j =
-        subst (λ (ps : List Part). IsFirstBroken Ours part_start ps place) (sym (parts_sub (length subs) (puts_in subs) t (ts ++ rest) y))
-        (broken_left Ours part_start (sub_parts input (length subs) (puts_in subs) t) (child_parts input (suc (length subs)) (puts_with (puts_in subs) (sub_row input t)) (ts ++ rest)) place j)
+        subst (λ (ps : List Site). IsFirstBroken Ours site_start ps place) (sym (parts_sub (length subs) (puts_in subs) t (ts ++ rest) y))
+        (broken_left Ours site_start (sub_sites input (length subs) (puts_in subs) t) (child_sites input (suc (length subs)) (puts_with (puts_in subs) (sub_row input t)) (ts ++ rest)) place j)
 
     pub judges_then : (ts : List Tree) → AllByRecursion (λ t. is_kind 0x15 t ≡ false) ts → (subs : List WireSub) → JudgesThen ts subs (and_then (Read ts subs) next)
     judges_then [] none subs = none_left subs (next subs) (judges_rest subs)
@@ -208,9 +208,9 @@ module _ (input : List ℕ) (fits : IsBytes input) where
   after behind subs es = and_then (Read behind subs) (λ all. Ok (made es all))
 
   judges_after : (behind : List Tree) → AllByRecursion (λ t. is_kind 0x15 t ≡ false) behind → (subs : List WireSub) (es : List Element)
-      → Judges Ours part_start (Made behind es subs) (child_parts input (length subs) (puts_in subs) behind) (after behind subs es)
+      → Judges Ours site_start (Made behind es subs) (child_sites input (length subs) (puts_in subs) behind) (after behind subs es)
   judges_after behind none subs es =
-      subst (λ (l : List Tree). Judges Ours part_start (Made behind es subs) (child_parts input (length subs) (puts_in subs) l) (after behind subs es)) (append-nil behind)
+      subst (λ (l : List Tree). Judges Ours site_start (Made behind es subs) (child_sites input (length subs) (puts_in subs) l) (after behind subs es)) (append-nil behind)
       (judges_then [] (λ all. Ok (made es all)) (λ all r. r ≡ made es all) (λ all. (refl, tt)) behind none subs)
 
   abbrev WithPackage : Tree → List Tree → List WireSub → CellRequest → Type 0
@@ -220,20 +220,20 @@ module _ (input : List ℕ) (fits : IsBytes input) where
   from_package c behind subs = and_then (package_at input c) (after behind subs)
 
   abbrev PackageJudged : Tree → List Tree → List WireSub → Result CellRequest ℕ → Type 0
-  PackageJudged c behind subs r = Judges Ours part_start (WithPackage c behind subs) (map packed (elements.package_parts input c) ++ child_parts input (length subs) (puts_in subs) behind) r
+  PackageJudged c behind subs r = Judges Ours site_start (WithPackage c behind subs) (map packed (elements.package_sites input c) ++ child_sites input (length subs) (puts_in subs) behind) r
 
-  then_behind : (c : Tree) (behind : List Tree) (subs : List WireSub) (es : List Element) → IsPackage input c es → AllByRecursion Ours (map packed (elements.package_parts input c))
-      → (r : Result CellRequest ℕ) → Judges Ours part_start (Made behind es subs) (child_parts input (length subs) (puts_in subs) behind) r → PackageJudged c behind subs r
-  then_behind c behind subs es p own (Ok r) j = ((es, p, j.0), all-append Ours part_start (map packed (elements.package_parts input c)) (child_parts input (length subs) (puts_in subs) behind) own j.1)
-  then_behind c behind subs es p own (Err place) j = broken_right Ours part_start (map packed (elements.package_parts input c)) (child_parts input (length subs) (puts_in subs) behind) place own j
+  then_behind : (c : Tree) (behind : List Tree) (subs : List WireSub) (es : List Element) → IsPackage input c es → AllByRecursion Ours (map packed (elements.package_sites input c))
+      → (r : Result CellRequest ℕ) → Judges Ours site_start (Made behind es subs) (child_sites input (length subs) (puts_in subs) behind) r → PackageJudged c behind subs r
+  then_behind c behind subs es p own (Ok r) j = ((es, p, j.0), all-append Ours site_start (map packed (elements.package_sites input c)) (child_sites input (length subs) (puts_in subs) behind) own j.1)
+  then_behind c behind subs es p own (Err place) j = broken_right Ours site_start (map packed (elements.package_sites input c)) (child_sites input (length subs) (puts_in subs) behind) place own j
 
   judges_from : (c : Tree) (behind : List Tree) → AllByRecursion (λ t. is_kind 0x15 t ≡ false) behind → (subs : List WireSub) → PackageJudged c behind subs (from_package c behind subs)
   judges_from c behind none subs = go (package_at input c) (judges_package input fits c) where
-    go : (r : Result (List Element) ℕ) → Judges (elements.InOwnForm input) elements.part_start (IsPackage input c) (elements.package_parts input c) r → PackageJudged c behind subs (and_then r (after behind subs))
-    go (Ok es) j = then_behind c behind subs es j.0 (all_packed input fits (elements.package_parts input c) j.1) (after behind subs es) (judges_after behind none subs es)
+    go : (r : Result (List Element) ℕ) → Judges (elements.InOwnForm input) elements.site_start (IsPackage input c) (elements.package_sites input c) r → PackageJudged c behind subs (and_then r (after behind subs))
+    go (Ok es) j = then_behind c behind subs es j.0 (all_packed input fits (elements.package_sites input c) j.1) (after behind subs es) (judges_after behind none subs es)
     go (Err place) j =
-        broken_left Ours part_start (map packed (elements.package_parts input c)) (child_parts input (length subs) (puts_in subs) behind) place
-        (broken_packed input fits (elements.package_parts input c) place j)
+        broken_left Ours site_start (map packed (elements.package_sites input c)) (child_sites input (length subs) (puts_in subs) behind) place
+        (broken_packed input fits (elements.package_sites input c) place j)
 
   not_sub : (c : Tree) → is_kind 0x15 c ≡ true → is_kind 0x42 c ≡ false
   not_sub c y =
@@ -248,10 +248,10 @@ module _ (input : List ℕ) (fits : IsBytes input) where
 
   -- what the children say, where the package stands between them
   judges_parts : (before : List Tree) (c : Tree) (behind : List Tree) → AllByRecursion (λ t. is_kind 0x15 t ≡ false) before → is_kind 0x15 c ≡ true → AllByRecursion (λ t. is_kind 0x15 t ≡ false) behind
-      → Judges Ours part_start (λ r. (subs : List WireSub) × Behind before [] subs × WithPackage c behind subs r) (child_parts input 0 0 (before ++ (c ∷ behind))) (parts_at input before c behind)
+      → Judges Ours site_start (λ r. (subs : List WireSub) × Behind before [] subs × WithPackage c behind subs r) (child_sites input 0 0 (before ++ (c ∷ behind))) (parts_at input before c behind)
   judges_parts before c behind none y none_behind =
       judges_then (c ∷ behind) (from_package c behind) (WithPackage c behind)
-      (λ all. subst (λ (ps : List Part). Judges Ours part_start (WithPackage c behind all) ps (from_package c behind all)) (sym (parts_package (length all) (puts_in all) c behind (not_sub c y) y)) (judges_from c behind none_behind all))
+      (λ all. subst (λ (ps : List Site). Judges Ours site_start (WithPackage c behind all) ps (from_package c behind all)) (sym (parts_package (length all) (puts_in all) c behind (not_sub c y) y)) (judges_from c behind none_behind all))
       before none []
 
   subs_among : (before : List Tree) (c : Tree) (behind : List Tree) → is_kind 0x42 c ≡ false → filter (is_kind 0x42) (before ++ (c ∷ behind)) ≡ filter (is_kind 0x42) before ++ filter (is_kind 0x42) behind
@@ -277,20 +277,20 @@ module _ (input : List ℕ) (fits : IsBytes input) where
       subst (SaysRequest input t) (sym e) made_is
 
   judges_in : (t c : Tree) (p : Parted (out-Tree t).children c) → kind_of t ≡ 0x40 → (out-Tree t).compound ≡ true → children_of 0x15 t ≡ c ∷ [] → (r : Result CellRequest ℕ)
-      → Judges Ours part_start (λ r. (subs : List WireSub) × Behind p.before [] subs × WithPackage c p.behind subs r) (child_parts input 0 0 (out-Tree t).children) r
-      → Judges Ours part_start (SaysRequest input t) (request_parts input t) r
+      → Judges Ours site_start (λ r. (subs : List WireSub) × Behind p.before [] subs × WithPackage c p.behind subs r) (child_sites input 0 0 (out-Tree t).children) r
+      → Judges Ours site_start (SaysRequest input t) (request_sites input t) r
   judges_in t c p kind mark one (Ok r) j = (says t c p kind mark one r j.0, ((kind, mark, (c, one)), j.1))
   judges_in t c p kind mark one (Err place) j = inr ((kind, mark, (c, one)), j)
 
   judges_split : (t c : Tree) → kind_of t ≡ 0x40 → (out-Tree t).compound ≡ true → children_of 0x15 t ≡ c ∷ []
-      → Judges Ours part_start (SaysRequest input t) (request_parts input t) (split_at input (start_of t) (split (out-Tree t).children))
+      → Judges Ours site_start (SaysRequest input t) (request_sites input t) (split_at input (start_of t) (split (out-Tree t).children))
   judges_split t c kind mark one =
       let p = parted (out-Tree t).children c one in
       let j = judges_parts p.before c p.behind p.none_before p.here p.none_behind in
-      let k = subst (λ (l : List Tree). Judges Ours part_start (λ r. (subs : List WireSub) × Behind p.before [] subs × WithPackage c p.behind subs r) (child_parts input 0 0 l) (parts_at input p.before c p.behind)) (sym p.all_are) j in
+      let k = subst (λ (l : List Tree). Judges Ours site_start (λ r. (subs : List WireSub) × Behind p.before [] subs × WithPackage c p.behind subs r) (child_sites input 0 0 l) (parts_at input p.before c p.behind)) (sym p.all_are) j in
       rw p.is (judges_in t c p kind mark one (parts_at input p.before c p.behind) k)
 
-  pub judges_request : (t : Tree) → Judges Ours part_start (SaysRequest input t) (request_parts input t) (request_at input t)
+  pub judges_request : (t : Tree) → Judges Ours site_start (SaysRequest input t) (request_sites input t) (request_at input t)
   unfolding request_at
   judges_request t =
       elim (eqb_tells (kind_of t) 0x40) [
@@ -298,7 +298,7 @@ module _ (input : List ℕ) (fits : IsBytes input) where
         | inr n ↦ rw n.0 (inl (λ own. n.1 own.0, refl))
       ] where
         by_mark : kind_of t ≡ 0x40 → (m : Bool) (s : Option Tree) → (out-Tree t).compound ≡ m → single (children_of 0x15 t) ≡ s
-            → Judges Ours part_start (SaysRequest input t) (request_parts input t) (if m && is_some s then split_at input (start_of t) (split (out-Tree t).children) else Err (start_of t))
+            → Judges Ours site_start (SaysRequest input t) (request_sites input t) (if m && is_some s then split_at input (start_of t) (split (out-Tree t).children) else Err (start_of t))
         by_mark k true (Some c) e g = judges_split t c k e (single_some (children_of 0x15 t) c g)
         by_mark k true None e g = inl (λ own. single_none (children_of 0x15 t) g own.2.0 own.2.1, refl)
         by_mark k false s e g = inl (λ own. let yes = own.1 in absurd cc, refl)

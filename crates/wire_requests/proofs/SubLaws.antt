@@ -18,10 +18,10 @@ use Rattle.stream_objects.specs.Parts.{IsFirstBroken}
 use Rattle.stream_objects.proofs.Broken.{Judges}
 use Rattle.stream_objects.proofs.Children.{single_some, single_none, simple_gets, simple_again, compound_gets, compound_again, IsBytes-fields}
 use Rattle.doc_model.specs.wire.Knowledges.{SaysKnowledge}
-use Rattle.doc_model.specs.readers.KnowledgeParts as knowledges
-use Rattle.doc_model.specs.readers.ElementParts as elements
+use Rattle.doc_model.specs.readers.KnowledgeSites as knowledges
+use Rattle.doc_model.specs.readers.ElementSites as elements
 use Rattle.doc_model.specs.wire.Requests.{SubRequestFields, PutFields, AllocateFields, first_knowledge, IsKnown, Holds, IsSub, is_put}
-use Rattle.doc_model.specs.readers.RequestParts.{Part, sub_request, known, put, allocate, packed, HoldsOnce, InOwnForm, part_start, sub_row, known_parts, held_parts, parts_behind, sub_parts}
+use Rattle.doc_model.specs.readers.RequestSites.{Site, sub_request, known, put, allocate, packed, HoldsOnce, InOwnForm, site_start, sub_row, known_sites, held_sites, sites_behind, sub_sites}
 use Rattle.doc_model.specs.declared.knowledge.Knowledge.{Knowledge}
 use Rattle.doc_model.specs.declared.knowledge.Range.{Range}
 use Rattle.doc_model.specs.declared.request.WireSub.{WireSub}
@@ -67,7 +67,7 @@ gets_allocate : Gets (Begins AllocateRow) (λ b. if_some (take_allocate b))
 gets_allocate = gets_some AllocateRow take_allocate (takes_both SpellsCompact SpellsByte take_compact take_byte takes_compact takes_byte)
 
 module _ (input : List ℕ) (fits : IsBytes input) where
-  abbrev pub Own : Part → Type 0
+  abbrev pub Own : Site → Type 0
   Own = InOwnForm input
 
   sub_found : (t : Tree) (x : ℕ × (ℕ × ℕ)) → sub_row input t ≡ Some x → HasFields true (Begins SubRow) input t x
@@ -90,20 +90,20 @@ module _ (input : List ℕ) (fits : IsBytes input) where
 
   -- ---- the parts of knowledge and of a package
 
-  all_known : (ps : List knowledges.Part) → AllByRecursion (knowledges.InOwnForm input) ps → AllByRecursion Own (map known ps)
+  all_known : (ps : List knowledges.Site) → AllByRecursion (knowledges.InOwnForm input) ps → AllByRecursion Own (map known ps)
   all_known [] h = tt
   all_known (p ∷ ps) h = (h.0, all_known ps h.1)
 
-  broken_known : (ps : List knowledges.Part) (place : ℕ) → IsFirstBroken (knowledges.InOwnForm input) knowledges.part_start ps place → IsFirstBroken Own part_start (map known ps) place
+  broken_known : (ps : List knowledges.Site) (place : ℕ) → IsFirstBroken (knowledges.InOwnForm input) knowledges.site_start ps place → IsFirstBroken Own site_start (map known ps) place
   broken_known [] place h = h
   broken_known (p ∷ ps) place (inl h) = inl h
   broken_known (p ∷ ps) place (inr h) = inr (h.0, broken_known ps place h.1)
 
-  pub all_packed : (ps : List elements.Part) → AllByRecursion (elements.InOwnForm input) ps → AllByRecursion Own (map packed ps)
+  pub all_packed : (ps : List elements.Site) → AllByRecursion (elements.InOwnForm input) ps → AllByRecursion Own (map packed ps)
   all_packed [] h = tt
   all_packed (p ∷ ps) h = (h.0, all_packed ps h.1)
 
-  pub broken_packed : (ps : List elements.Part) (place : ℕ) → IsFirstBroken (elements.InOwnForm input) elements.part_start ps place → IsFirstBroken Own part_start (map packed ps) place
+  pub broken_packed : (ps : List elements.Site) (place : ℕ) → IsFirstBroken (elements.InOwnForm input) elements.site_start ps place → IsFirstBroken Own site_start (map packed ps) place
   broken_packed [] place h = h
   broken_packed (p ∷ ps) place (inl h) = inl h
   broken_packed (p ∷ ps) place (inr h) = inr (h.0, broken_packed ps place h.1)
@@ -115,21 +115,21 @@ module _ (input : List ℕ) (fits : IsBytes input) where
   HeldBehind m t kind what = Holds input t kind what × (is_put what ≡ true → m < 4)
 
   abbrev JudgesHeld : ℕ → Tree → ℕ → Result WireKind ℕ → Type 0
-  JudgesHeld m t kind r = Judges Own part_start (HeldBehind m t kind) (held_parts input m t kind) r
+  JudgesHeld m t kind r = Judges Own site_start (HeldBehind m t kind) (held_sites input m t kind) r
 
   -- What must be there once is, and the rest decides; or it isn't.
   abbrev Judged : ℕ → Tree → ℕ → Result WireKind ℕ → Type 0
   Judged m t kind r = (HoldsOnce kind t × JudgesHeld m t kind r) ⊎ ((¬ HoldsOnce kind t) × (r ≡ Err (start_of t)))
 
   -- a query
-  judges_known : (m : ℕ) (t : Tree) → HasOne 0x51 t → (o : Option Tree) → first_knowledge t ≡ o → Judges Own part_start (HeldBehind m t 2) (known_parts input o) (pull_of (known_at input o))
+  judges_known : (m : ℕ) (t : Tree) → HasOne 0x51 t → (o : Option Tree) → first_knowledge t ≡ o → Judges Own site_start (HeldBehind m t 2) (known_sites input o) (pull_of (known_at input o))
   judges_known m t one (Some u) e = go (knowledge_at input u) (judges_knowledge input fits u) where
-    go : (r : Result (List Range) ℕ) → Judges (knowledges.InOwnForm input) knowledges.part_start (SaysKnowledge input u) (knowledges.knowledge_parts input u) r
-        → Judges Own part_start (HeldBehind m t 2) (map known (knowledges.knowledge_parts input u)) (pull_of (knowledge_of r))
+    go : (r : Result (List Range) ℕ) → Judges (knowledges.InOwnForm input) knowledges.site_start (SaysKnowledge input u) (knowledges.knowledge_sites input u) r
+        → Judges Own site_start (HeldBehind m t 2) (map known (knowledges.knowledge_sites input u)) (pull_of (knowledge_of r))
     go (Ok ranges) j =
         let is : IsKnown input (first_knowledge t) (record { ranges = ranges }) = subst (λ (o : Option Tree). IsKnown input o (record { ranges = ranges })) (sym e) j.0 in
-        (((refl, one, is), λ y. absurd cc), all_known (knowledges.knowledge_parts input u) j.1)
-    go (Err place) j = broken_known (knowledges.knowledge_parts input u) place j
+        (((refl, one, is), λ y. absurd cc), all_known (knowledges.knowledge_sites input u) j.1)
+    go (Err place) j = broken_known (knowledges.knowledge_sites input u) place j
   judges_known m t one None e =
       let is : IsKnown input (first_knowledge t) (record { ranges = [] }) = subst (λ (o : Option Tree). IsKnown input o (record { ranges = [] })) (sym e) refl in
       (((refl, one, is), λ y. absurd cc), tt)
@@ -146,7 +146,7 @@ module _ (input : List ℕ) (fits : IsBytes input) where
 
   -- a put
   abbrev JudgesPut : ℕ → Tree → Result WireKind ℕ → Type 0
-  JudgesPut m c r = Judges Own part_start (λ what. (m < 4) × ((x : ExGuid × (ExGuid × ℕ)) × PutFields input c x × (what ≡ Put x.0 x.1.0 x.1.1))) (put m c ∷ []) r
+  JudgesPut m c r = Judges Own site_start (λ what. (m < 4) × ((x : ExGuid × (ExGuid × ℕ)) × PutFields input c x × (what ≡ Put x.0 x.1.0 x.1.1))) (put m c ∷ []) r
 
   judges_put : (m : ℕ) (c : Tree) → JudgesPut m c (put_fields_at input m c)
   unfolding put_fields_at
@@ -164,7 +164,7 @@ module _ (input : List ℕ) (fits : IsBytes input) where
       let x = j.0.1.0 in
       let holds : Holds input t 5 (Put x.0 x.1.0 x.1.1) = (refl, (c, one, j.0.1.1)) in
       ((subst (Holds input t 5) (sym j.0.1.2) holds, λ y. j.0.0), subst (λ (cs : List Tree). AllByRecursion Own (map (put m) cs)) (sym one) j.1)
-  held_put m t c one (Err place) j = subst (λ (cs : List Tree). IsFirstBroken Own part_start (map (put m) cs) place) (sym one) j
+  held_put m t c one (Err place) j = subst (λ (cs : List Tree). IsFirstBroken Own site_start (map (put m) cs) place) (sym one) j
 
   judged_put : (m : ℕ) (t : Tree) → Judged m t 5 (put_at input m t)
   unfolding put_at
@@ -178,7 +178,7 @@ module _ (input : List ℕ) (fits : IsBytes input) where
 
   -- a draw
   abbrev JudgesAllocate : Tree → Result WireKind ℕ → Type 0
-  JudgesAllocate c r = Judges Own part_start (λ what. (count : ℕ) × AllocateFields input c count × (what ≡ Draw count)) (allocate c ∷ []) r
+  JudgesAllocate c r = Judges Own site_start (λ what. (count : ℕ) × AllocateFields input c count × (what ≡ Draw count)) (allocate c ∷ []) r
 
   judges_allocate : (c : Tree) → JudgesAllocate c (allocate_at input c)
   unfolding allocate_at
@@ -191,7 +191,7 @@ module _ (input : List ℕ) (fits : IsBytes input) where
   held_draw m t c one (Ok what) j =
       let holds : HeldBehind m t 11 (Draw j.0.0) = ((refl, (c, one, j.0.1)), λ y. absurd cc) in
       (subst (HeldBehind m t 11) (sym j.0.2) holds, subst (λ (cs : List Tree). AllByRecursion Own (map allocate cs)) (sym one) j.1)
-  held_draw m t c one (Err place) j = subst (λ (cs : List Tree). IsFirstBroken Own part_start (map allocate cs) place) (sym one) j
+  held_draw m t c one (Err place) j = subst (λ (cs : List Tree). IsFirstBroken Own site_start (map allocate cs) place) (sym one) j
 
   judged_draw : (m : ℕ) (t : Tree) → Judged m t 11 (draw_at input t)
   unfolding draw_at
@@ -212,7 +212,7 @@ module _ (input : List ℕ) (fits : IsBytes input) where
   judged_unknown : (m : ℕ) (t : Tree) (kind : ℕ) → (kind ≡ 1 → ⊥) → (kind ≡ 2 → ⊥) → (kind ≡ 5 → ⊥) → (kind ≡ 11 → ⊥) → Judged m t kind (Ok Unknown)
   judged_unknown m t kind a b c d =
       let once : HoldsOnce kind t = record { query = λ k. absurd (b k); put = λ k. absurd (c k); allocate = λ k. absurd (d k) } in
-      let none : held_parts input m t kind ≡ [] = rw (ne_eqb kind 2 b, ne_eqb kind 5 c, ne_eqb kind 11 d) refl in
+      let none : held_sites input m t kind ≡ [] = rw (ne_eqb kind 2 b, ne_eqb kind 5 c, ne_eqb kind 11 d) refl in
       inl (once, (((a, b, c, d), λ y. absurd cc), subst (AllByRecursion Own) (sym none) tt))
 
   what_unknown : (m : ℕ) (t : Tree) (kind : ℕ) → (kind ≡ 1 → ⊥) → (kind ≡ 2 → ⊥) → (kind ≡ 5 → ⊥) → (kind ≡ 11 → ⊥) → what_at input m t kind ≡ Ok Unknown
@@ -248,7 +248,7 @@ module _ (input : List ℕ) (fits : IsBytes input) where
     pub few_puts : is_put s.what ≡ true → m < 4
 
   abbrev JudgesWith : ℕ → ℕ → Tree → Option (ℕ × (ℕ × ℕ)) → Result WireSub ℕ → Type 0
-  JudgesWith n m t o r = Judges Own part_start (SubBehind n m t) (sub_request n t ∷ parts_behind input m t o) r
+  JudgesWith n m t o r = Judges Own site_start (SubBehind n m t) (sub_request n t ∷ sites_behind input m t o) r
 
   judges_held : (n m : ℕ) (t : Tree) → n < 64 → (id kind priority : ℕ) → SubRequestFields input t id kind → HoldsOnce kind t → (r : Result WireKind ℕ) → JudgesHeld m t kind r
       → JudgesWith n m t (Some (id, (kind, priority))) (sub_of id kind r)
@@ -279,7 +279,7 @@ module _ (input : List ℕ) (fits : IsBytes input) where
   judges_with n m t lt None e = inl (λ own. let some = sub_again t (own.1.0, (own.1.1, own.1.2.0)) own.1.2.1 in absurd cc, refl)
 
   abbrev pub JudgesSub : ℕ → ℕ → Tree → Result WireSub ℕ → Type 0
-  JudgesSub n m t r = Judges Own part_start (SubBehind n m t) (sub_parts input n m t) r
+  JudgesSub n m t r = Judges Own site_start (SubBehind n m t) (sub_sites input n m t) r
 
   pub judges_sub : (n m : ℕ) (t : Tree) → JudgesSub n m t (sub_at input n m t)
   unfolding sub_at

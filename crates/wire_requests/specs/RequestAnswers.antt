@@ -7,7 +7,7 @@ use Rattle.stream_objects.specs.Answers.{IsFaultAt}
 use Rattle.stream_objects.specs.Parts.{IsFirstBroken}
 use Rattle.doc_model.specs.wire.Fronts.{HasVersions, HasSignature}
 use Rattle.doc_model.specs.wire.Requests.{SaysRequest, IsRequest}
-use Rattle.doc_model.specs.readers.RequestParts.{InOwnForm, part_start, request_parts}
+use Rattle.doc_model.specs.readers.RequestSites.{InOwnForm, site_start, request_sites}
 use Rattle.doc_model.specs.declared.element.Element.{Element}
 use Rattle.doc_model.specs.declared.request.CellRequest.{CellRequest}
 use Rattle.data_elements.specs.declared.fault.ElementFault.{ElementFault}
@@ -28,17 +28,17 @@ IsRefusal bytes BadFront = ¬ HasVersions bytes
 IsRefusal bytes BadSignature = HasVersions bytes × (¬ HasSignature bytes)
 IsRefusal bytes (TreeFault fault) = HasVersions bytes × HasSignature bytes × IsFaultAt bytes 12 fault × (fault ≢ trees.NoMemory)
 IsRefusal bytes (Extra place) = HasVersions bytes × HasSignature bytes × (place < length bytes) × ((tree : Tree) × IsTreeAt bytes tree 12 place)
-IsRefusal bytes (SchemaFault place) = (tree : Tree) × IsFramed bytes tree × IsFirstBroken (InOwnForm bytes) part_start (request_parts bytes tree) place
+IsRefusal bytes (SchemaFault place) = (tree : Tree) × IsFramed bytes tree × IsFirstBroken (InOwnForm bytes) site_start (request_sites bytes tree) place
 IsRefusal bytes TooMany = (tree : Tree) × IsFramed bytes tree × ((request : CellRequest) × SaysRequest bytes tree request × (most_elements < length request.elements))
 IsRefusal bytes NoMemory = Unit {0}
 
-abbrev pub IsAnswer : List ℕ → Result CellRequest WireFault → Type 0
-IsAnswer bytes (Ok request) = IsRequest bytes request
-IsAnswer bytes (Err fault) = IsRefusal bytes fault
+abbrev pub IsResult : List ℕ → Result CellRequest WireFault → Type 0
+IsResult bytes (Ok request) = IsRequest bytes request
+IsResult bytes (Err fault) = IsRefusal bytes fault
 
 -- Where memory doesn't run out, no other answer is one.
-abbrev pub IsOnlyAnswer : List ℕ → Result CellRequest WireFault → Type 0
-IsOnlyAnswer bytes answer = (other : Result CellRequest WireFault) → IsAnswer bytes other → other ≢ Err NoMemory → (answer ≡ Err NoMemory) ⊎ (answer ≡ other)
+abbrev pub IsOnlyResult : List ℕ → Result CellRequest WireFault → Type 0
+IsOnlyResult bytes answer = (other : Result CellRequest WireFault) → IsResult bytes other → other ≢ Err NoMemory → (answer ≡ Err NoMemory) ⊎ (answer ≡ other)
 
 -- ---- the steps
 

@@ -9,7 +9,7 @@ use Rattle.stream_objects.specs.ObjectFields.{simple_fields, single}
 use Rattle.stream_objects.specs.Gathering.{and_then, gather}
 use Rattle.stream_objects.specs.declared.object_types.TheConstants.{ALLOCATE_EXTENDED_GUID_RANGE_REQUEST, DATA_ELEMENT_PACKAGE, PUT_CHANGES_REQUEST, QUERY_CHANGES_REQUEST, REQUEST, SUB_REQUEST}
 use Rattle.doc_model.specs.wire.Requests.{first_knowledge, puts_in}
-use Rattle.doc_model.specs.readers.RequestParts.{sub_row}
+use Rattle.doc_model.specs.readers.RequestSites.{sub_row}
 use Rattle.doc_model.specs.declared.knowledge.Knowledge.{Knowledge}
 use Rattle.doc_model.specs.declared.knowledge.Range.{Range}
 use Rattle.doc_model.specs.declared.request.CellRequest.{CellRequest}

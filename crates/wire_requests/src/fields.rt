@@ -1,6 +1,6 @@
 // The fields of the objects in a sub-request.
 ghost use Rattle.std.specs.Prelude.{◌≡◌};
-ghost use Rattle.doc_model.specs.readers.RequestParts.{sub_row};
+ghost use Rattle.doc_model.specs.readers.RequestSites.{sub_row};
 ghost use Rattle.wire_requests.specs.RequestReading.{put_row, allocate_row};
 
 use compact_values::{ExGuid, take_byte, take_compact, take_exguid};

@@ -2,7 +2,7 @@
 ghost use Rattle.std.specs.Prelude.{◌≡◌, [], option_map};
 ghost use Rattle.doc_model.specs.wire.Fronts.{HasVersions, HasSignature};
 ghost use Rattle.data_elements.specs.Reading.{package_at};
-ghost use Rattle.wire_requests.specs.RequestAnswers.{IsAnswer, IsOnlyAnswer, GivesElements, GivesRequest};
+ghost use Rattle.wire_requests.specs.RequestAnswers.{IsResult, IsOnlyResult, GivesElements, GivesRequest};
 ghost use Rattle.wire_requests.specs.RequestOf.{Computes, request_of};
 ghost use Rattle.wire_requests.specs.RequestReading.{split, parts_at, request_at};
 
@@ -89,7 +89,7 @@ fn read_form(alloc: Global, bytes: &[u8], tree: &Tree) -> Result<CellRequest, Wi
 fn read_behind(alloc: Global, bytes: &[u8]) -> Result<CellRequest, WireFault>
     requires versions { HasVersions bytes.now }
     requires signature { HasSignature bytes.now }
-    ensures { IsAnswer bytes.now result }
+    ensures { IsResult bytes.now result }
 {
     match read_tree(alloc, bytes, 12) {
         Ok((tree, next)) => {
@@ -106,7 +106,7 @@ fn read_behind(alloc: Global, bytes: &[u8]) -> Result<CellRequest, WireFault>
 
 // The request, or why the bytes are none.
 fn find_request(alloc: Global, bytes: &[u8]) -> Result<CellRequest, WireFault>
-    ensures { IsAnswer bytes.now result }
+    ensures { IsResult bytes.now result }
 {
     if !has_versions(bytes) {
         return Err(WireFault::BadFront);
@@ -126,9 +126,9 @@ fn find_request(alloc: Global, bytes: &[u8]) -> Result<CellRequest, WireFault>
 /// of any answer.
 pub fn read_cell_request(alloc: Global, bytes: &[u8]) -> Result<CellRequest, WireFault>
     // It is the request that the bytes are, or the refusal with its cause.
-    ensures answer { IsAnswer bytes.now result }
+    ensures answer { IsResult bytes.now result }
     // There is no other answer, unless memory runs out.
-    ensures only { IsOnlyAnswer bytes.now result }
+    ensures only { IsOnlyResult bytes.now result }
     // The reading on lists gives the same.
     ensures computed { Computes result (request_of bytes.now) }
 {

@@ -17,7 +17,7 @@ use Rattle.doc_model.specs.wire.ElementObjects.{IsNothing}
 use Rattle.doc_model.specs.wire.FittingElements.{FitsRange}
 use Rattle.doc_model.specs.wire.Knowledges.{IsKnowledge}
 use Rattle.doc_model.specs.wire.Responses.{code_number, error_object, success_object, status_byte, reply_objects, sub_response}
-use Rattle.doc_model.specs.wire.SeenResponses.{cell_error, hresult_error, SpellsNumber, ErrorNumber, IsCellError, IsSuccess, IsAccess, QueryAnswer, AllocateAnswer, reply_form, blank, IsSeen}
+use Rattle.doc_model.specs.wire.SeenResponses.{cell_error, hresult_error, SpellsNumber, ErrorNumber, IsCellError, IsSuccess, IsAccess, QueryFields, AllocateFields, reply_form, blank, IsSeen}
 use Rattle.doc_model.specs.wire.WrittenElements.{knowledge_bytes}
 use Rattle.doc_model.specs.declared.knowledge.Knowledge.{Knowledge}
 use Rattle.doc_model.specs.declared.reply.Answer.{Answer}
@@ -98,13 +98,13 @@ module _ (input : List ℕ) (n : ℕ) where
 
   -- ---- queries and numbers
 
-  query_stands : (i : ExGuid) (p : ℕ) → FitsExGuid i → At input p (simple_object 0x5F (exguid i ++ 0 ∷ [])) → Whole input (suc n) (λ t. Of 0x5F (QueryAnswer input) t i) 1 p (p + length (simple_object 0x5F (exguid i ++ 0 ∷ [])))
+  query_stands : (i : ExGuid) (p : ℕ) → FitsExGuid i → At input p (simple_object 0x5F (exguid i ++ 0 ∷ [])) → Whole input (suc n) (λ t. Of 0x5F (QueryFields input) t i) 1 p (p + length (simple_object 0x5F (exguid i ++ 0 ∷ [])))
   query_stands i p f a =
       leaf input n p 0x5F (SpellsExGuid ▹ SpellsByte) (i, 0) (exguid i ++ 0 ∷ []) (omega arith) (omega (arith, id_short i, length-append (exguid i) (0 ∷ [])))
       (pair SpellsExGuid SpellsByte i 0 (exguid i) (0 ∷ []) (id_spelled i f) refl) a
 
   allocate_stands : (g : Guid) (first last p : ℕ) → FitsGuid g → first < 2 ^ 64 → last < 2 ^ 64 → At input p (simple_object 0x81 (guid_bytes g.number ++ compact first ++ compact last))
-      → Whole input (suc n) (λ t. Of 0x81 (AllocateAnswer input) t (g, (first, last))) 1 p (p + length (simple_object 0x81 (guid_bytes g.number ++ compact first ++ compact last)))
+      → Whole input (suc n) (λ t. Of 0x81 (AllocateFields input) t (g, (first, last))) 1 p (p + length (simple_object 0x81 (guid_bytes g.number ++ compact first ++ compact last)))
   allocate_stands g first last p f l m a =
       let x = guid_bytes g.number in
       let y = compact first in
@@ -175,10 +175,10 @@ module _ (input : List ℕ) (n : ℕ) (id kind : ℕ) (i : id < 2 ^ 64) (k : kin
       let q = p + length (started 0x41 true fields) in
       let held = inside_at input p 0x41 fields (x ++ y) a in
       whole_map input levels (1 + (1 + (3 + length known.ranges))) p (p + length (compound_object 0x41 fields (x ++ y)))
-      (λ t. (kind_of t ≡ 0x41) × (HasFields true Row input t (id, (kind, 0)) × (One 0x5F (QueryAnswer input) t index × One 0x10 (IsKnowledge input) t known)))
+      (λ t. (kind_of t ≡ 0x41) × (HasFields true Row input t (id, (kind, 0)) × (One 0x5F (QueryFields input) t index × One 0x10 (IsKnowledge input) t known)))
       (λ t. Of 0x41 (IsSeen input) t (record (blank id kind) { index = index; knowledge = known }))
       (λ t h. (h.0, record { id = id; kind = kind; status = 0; fields = h.1.0; form = Pulled; form_is = ap (λ (m : ℕ). reply_form m 0) is; says = (index, known, h.1.1.0, h.1.1.1, refl) }))
-      (both_held input (suc (suc (suc (suc n)))) p 0x41 0x5F 0x10 Row (id, (kind, 0)) fields x y (QueryAnswer input) (IsKnowledge input) index known 1 (3 + length known.ranges) (λ e. omega (arith, e)) (omega arith)
+      (both_held input (suc (suc (suc (suc n)))) p 0x41 0x5F 0x10 Row (id, (kind, 0)) fields x y (QueryFields input) (IsKnowledge input) index known 1 (3 + length known.ranges) (λ e. omega (arith, e)) (omega arith)
       (row_short id kind 0) (row_spelled id kind 0 i k) a (query_stands input (suc (suc (suc n))) index q f (at_front input q x y held)) (knowledge_stands input n known (q + length x) g (at_back input q x y held)))
 
   stored_stands : (known : Knowledge) (p : ℕ) → kind ≡ 5 → AllByRecursion FitsRange known.ranges → At input p (compound_object 0x41 (row id kind 0) (knowledge_bytes known))
@@ -199,10 +199,10 @@ module _ (input : List ℕ) (n : ℕ) (id kind : ℕ) (i : id < 2 ^ 64) (k : kin
       let fields = row id kind 0 in
       let x = simple_object 0x81 (guid_bytes g.number ++ compact first ++ compact last) in
       let q = p + length (started 0x41 true fields) in
-      whole_map input levels 2 p (p + length (compound_object 0x41 fields x)) (λ t. (kind_of t ≡ 0x41) × (HasFields true Row input t (id, (kind, 0)) × One 0x81 (AllocateAnswer input) t (g, (first, last))))
+      whole_map input levels 2 p (p + length (compound_object 0x41 fields x)) (λ t. (kind_of t ≡ 0x41) × (HasFields true Row input t (id, (kind, 0)) × One 0x81 (AllocateFields input) t (g, (first, last))))
       (λ t. Of 0x41 (IsSeen input) t (record (blank id kind) { guid = g; least = first; greatest = last }))
       (λ t h. (h.0, record { id = id; kind = kind; status = 0; fields = h.1.0; form = Drawn; form_is = ap (λ (m : ℕ). reply_form m 0) is; says = ((g, (first, last)), h.1.1, refl) }))
-      (holder input (suc (suc (suc (suc n)))) p 0x41 0x81 Row (id, (kind, 0)) fields x (AllocateAnswer input) (g, (first, last)) 1 (omega arith) (row_short id kind 0) (row_spelled id kind 0 i k) a
+      (holder input (suc (suc (suc (suc n)))) p 0x41 0x81 Row (id, (kind, 0)) fields x (AllocateFields input) (g, (first, last)) 1 (omega arith) (row_short id kind 0) (row_spelled id kind 0 i k) a
       (allocate_stands input (suc (suc (suc n))) g first last q f l m (inside_at input p 0x41 fields x a)))
 
   submitted_stands : (s : Submitted) (p : ℕ) → FitsReply kind s → At input p (compound_object 0x41 (row id kind (status_byte s)) (reply_objects s))

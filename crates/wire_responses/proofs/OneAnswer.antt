@@ -15,9 +15,9 @@ use Rattle.doc_model.specs.declared.response.CellResponse.{CellResponse}
 use Rattle.data_elements.specs.declared.wire_fault.WireFault.{WireFault}
 use Rattle.data_elements.specs.declared.wire_fault.WireFault.TheVariants as faults
 use Rattle.doc_model.specs.wire.SeenResponses.{HasVersions, HasSignature, IsCellResponse, ReadsAs}
-use Rattle.doc_model.specs.readers.ResponseParts.{InOwnForm, part_start, response_parts}
+use Rattle.doc_model.specs.readers.ResponseSites.{InOwnForm, site_start, response_sites}
 use Rattle.wire_responses.specs.ResponseReading.{response_at}
-use Rattle.wire_responses.specs.ResponseAnswers.{IsAnswer, IsOnlyAnswer, GivesFew}
+use Rattle.wire_responses.specs.ResponseAnswers.{IsResult, IsOnlyResult, GivesFew}
 use Rattle.wire_responses.proofs.ResponseLaws.{judges_response, again_response}
 
 module _ (bytes : List ℕ) (fits : IsBytes bytes) where
@@ -25,7 +25,7 @@ module _ (bytes : List ℕ) (fits : IsBytes bytes) where
   Answer = Result CellResponse WireFault
 
   -- one tree, or one fault, stands behind the front
-  one_stands : HasVersions bytes → (a b : Result (Tree × ℕ) TreeFault) → stream.IsAnswer bytes 12 a → stream.IsAnswer bytes 12 b → a ≢ Err trees.NoMemory → b ≢ Err trees.NoMemory → a ≡ b
+  one_stands : HasVersions bytes → (a b : Result (Tree × ℕ) TreeFault) → stream.IsResult bytes 12 a → stream.IsResult bytes 12 b → a ≢ Err trees.NoMemory → b ≢ Err trees.NoMemory → a ≡ b
   one_stands v a b p q x y = one_answer bytes 12 v.long a b p q x y
 
   found : Tree → ℕ → Result (Tree × ℕ) TreeFault
@@ -64,18 +64,18 @@ module _ (bytes : List ℕ) (fits : IsBytes bytes) where
 
   form_is : (t : Tree) (response : CellResponse) → response_at bytes t ≡ Ok response → IsCellResponse bytes t response
   form_is t response g = go (response_at bytes t) g (judges_response bytes fits t) where
-    go : (r : Result CellResponse ℕ) → r ≡ Ok response → Judges (InOwnForm bytes) part_start (IsCellResponse bytes t) (response_parts bytes t) r → IsCellResponse bytes t response
+    go : (r : Result CellResponse ℕ) → r ≡ Ok response → Judges (InOwnForm bytes) site_start (IsCellResponse bytes t) (response_sites bytes t) r → IsCellResponse bytes t response
     go (Ok read) e j = let same : read ≡ response = cc in subst (IsCellResponse bytes t) same j.0
     go (Err place) e j = absurd cc
 
-  broken_is : (t : Tree) (place : ℕ) → response_at bytes t ≡ Err place → IsFirstBroken (InOwnForm bytes) part_start (response_parts bytes t) place
+  broken_is : (t : Tree) (place : ℕ) → response_at bytes t ≡ Err place → IsFirstBroken (InOwnForm bytes) site_start (response_sites bytes t) place
   broken_is t place g = go (response_at bytes t) g (judges_response bytes fits t) where
-    go : (r : Result CellResponse ℕ) → r ≡ Err place → Judges (InOwnForm bytes) part_start (IsCellResponse bytes t) (response_parts bytes t) r
-        → IsFirstBroken (InOwnForm bytes) part_start (response_parts bytes t) place
+    go : (r : Result CellResponse ℕ) → r ≡ Err place → Judges (InOwnForm bytes) site_start (IsCellResponse bytes t) (response_sites bytes t) r
+        → IsFirstBroken (InOwnForm bytes) site_start (response_sites bytes t) place
     go (Ok read) e j = absurd cc
-    go (Err p) e j = let same : p ≡ place = cc in subst (IsFirstBroken (InOwnForm bytes) part_start (response_parts bytes t)) same j
+    go (Err p) e j = let same : p ≡ place = cc in subst (IsFirstBroken (InOwnForm bytes) site_start (response_sites bytes t)) same j
 
-  pub answer_is : HasVersions bytes → HasSignature bytes → (t : Tree) → IsTreeAt bytes t 12 (length bytes) → (r : Result CellResponse WireFault) → GivesFew r (response_at bytes t) → IsAnswer bytes r
+  pub answer_is : HasVersions bytes → HasSignature bytes → (t : Tree) → IsTreeAt bytes t 12 (length bytes) → (r : Result CellResponse WireFault) → GivesFew r (response_at bytes t) → IsResult bytes r
   answer_is v s t at (Ok response) g = record { versions = v; signature = s; tree = t; stands = at; form = form_is t response g.0; few = g.1 }
   answer_is v s t at (Err (faults.SchemaFault place)) g = (v, s, (t, at, broken_is t place g))
   answer_is v s t at (Err faults.TooMany) g = (v, s, (t, at, g.0, form_is t g.0 g.1, g.2))
@@ -100,15 +100,15 @@ module _ (bytes : List ℕ) (fits : IsBytes bytes) where
       cc
 
   form_or_broken : HasVersions bytes → (t u : Tree) → IsTreeAt bytes t 12 (length bytes) → IsTreeAt bytes u 12 (length bytes) → (x : CellResponse) (place : ℕ) → IsCellResponse bytes t x
-      → IsFirstBroken (InOwnForm bytes) part_start (response_parts bytes u) place → ⊥
+      → IsFirstBroken (InOwnForm bytes) site_start (response_sites bytes u) place → ⊥
   form_or_broken v t u p q x place f b = go (response_at bytes t) (again_response bytes fits t x f) (judges_response bytes fits t) where
-    go : (r : Result CellResponse ℕ) → r ≡ Ok x → Judges (InOwnForm bytes) part_start (IsCellResponse bytes t) (response_parts bytes t) r → ⊥
+    go : (r : Result CellResponse ℕ) → r ≡ Ok x → Judges (InOwnForm bytes) site_start (IsCellResponse bytes t) (response_sites bytes t) r → ⊥
     go (Ok ds) e j =
-        none_broken (InOwnForm bytes) part_start (response_parts bytes t) place j.1
-        (subst (λ (w : Tree). IsFirstBroken (InOwnForm bytes) part_start (response_parts bytes w) place) (sym (whole_expected v t u p q)) b)
+        none_broken (InOwnForm bytes) site_start (response_sites bytes t) place j.1
+        (subst (λ (w : Tree). IsFirstBroken (InOwnForm bytes) site_start (response_sites bytes w) place) (sym (whole_expected v t u p q)) b)
     go (Err n) e j = absurd cc
 
-  versions_in : (y : Result CellResponse WireFault) → IsAnswer bytes y → y ≢ Err faults.NoMemory → y ≢ Err faults.BadFront → HasVersions bytes
+  versions_in : (y : Result CellResponse WireFault) → IsResult bytes y → y ≢ Err faults.NoMemory → y ≢ Err faults.BadFront → HasVersions bytes
   versions_in (Ok n) q some ne = q.versions
   versions_in (Err (faults.TreeFault n)) q some ne = q.0
   versions_in (Err (faults.Extra n)) q some ne = q.0
@@ -118,7 +118,7 @@ module _ (bytes : List ℕ) (fits : IsBytes bytes) where
   versions_in (Err faults.BadSignature) q some ne = q.0
   versions_in (Err faults.NoMemory) q some ne = absurd (some refl)
 
-  signature_in : (y : Result CellResponse WireFault) → IsAnswer bytes y → HasVersions bytes → y ≢ Err faults.NoMemory → y ≢ Err faults.BadSignature → HasSignature bytes
+  signature_in : (y : Result CellResponse WireFault) → IsResult bytes y → HasVersions bytes → y ≢ Err faults.NoMemory → y ≢ Err faults.BadSignature → HasSignature bytes
   signature_in (Ok n) q v some ne = q.signature
   signature_in (Err (faults.TreeFault n)) q v some ne = q.1
   signature_in (Err (faults.Extra n)) q v some ne = q.1
@@ -128,7 +128,7 @@ module _ (bytes : List ℕ) (fits : IsBytes bytes) where
   signature_in (Err faults.BadSignature) q v some ne = absurd (ne refl)
   signature_in (Err faults.NoMemory) q v some ne = absurd (some refl)
 
-  one_of_two : (x y : Result CellResponse WireFault) → IsAnswer bytes x → IsAnswer bytes y → x ≢ Err faults.NoMemory → y ≢ Err faults.NoMemory → x ≡ y
+  one_of_two : (x y : Result CellResponse WireFault) → IsResult bytes x → IsResult bytes y → x ≢ Err faults.NoMemory → y ≢ Err faults.NoMemory → x ≡ y
   one_of_two (Err faults.NoMemory) y p q a b = absurd (a refl)
   one_of_two (Err faults.BadFront) (Err faults.BadFront) p q a b = refl
   one_of_two (Err faults.BadFront) y p q a b = absurd (p (versions_in y q b (λ e. absurd cc)))
@@ -164,7 +164,7 @@ module _ (bytes : List ℕ) (fits : IsBytes bytes) where
   one_of_two (Err (faults.SchemaFault d)) (Ok e) p q a b = absurd (form_or_broken p.0 q.tree p.2.0 q.stands p.2.1 e d q.form p.2.2)
   one_of_two (Err (faults.SchemaFault d)) (Err (faults.TreeFault e)) p q a b = absurd (no_fault p.0 p.2.0 e (length bytes) p.2.1 q.2 q.3)
   one_of_two (Err (faults.SchemaFault d)) (Err (faults.Extra e)) p q a b = absurd (omega (arith, q.2, (same_tree p.0 p.2.0 q.3.0 (length bytes) e p.2.1 q.3.1).1))
-  one_of_two (Err (faults.SchemaFault d)) (Err (faults.SchemaFault e)) p q a b = ap (λ (h : ℕ). Err (faults.SchemaFault h)) (one_broken (InOwnForm bytes) part_start (response_parts bytes p.2.0) d e p.2.2 (subst (λ (w : Tree). IsFirstBroken (InOwnForm bytes) part_start (response_parts bytes w) e) (sym (whole_expected p.0 p.2.0 q.2.0 p.2.1 q.2.1)) q.2.2))
+  one_of_two (Err (faults.SchemaFault d)) (Err (faults.SchemaFault e)) p q a b = ap (λ (h : ℕ). Err (faults.SchemaFault h)) (one_broken (InOwnForm bytes) site_start (response_sites bytes p.2.0) d e p.2.2 (subst (λ (w : Tree). IsFirstBroken (InOwnForm bytes) site_start (response_sites bytes w) e) (sym (whole_expected p.0 p.2.0 q.2.0 p.2.1 q.2.1)) q.2.2))
   one_of_two (Err (faults.SchemaFault d)) (Err faults.TooMany) p q a b = absurd (form_or_broken p.0 q.2.0 p.2.0 q.2.1 p.2.1 q.2.2 d q.2.3 p.2.2)
   one_of_two (Err faults.TooMany) (Err faults.BadFront) p q a b = absurd (q p.0)
   one_of_two (Err faults.TooMany) (Err faults.BadSignature) p q a b = absurd (q.1 p.1)
@@ -175,7 +175,7 @@ module _ (bytes : List ℕ) (fits : IsBytes bytes) where
   one_of_two (Err faults.TooMany) (Err (faults.SchemaFault e)) p q a b = absurd (form_or_broken p.0 p.2.0 q.2.0 p.2.1 q.2.1 p.2.2 e p.2.3 q.2.2)
   one_of_two (Err faults.TooMany) (Err faults.TooMany) p q a b = refl
 
-  pub one_only : (x : Result CellResponse WireFault) → IsAnswer bytes x → IsOnlyAnswer bytes x
+  pub one_only : (x : Result CellResponse WireFault) → IsResult bytes x → IsOnlyResult bytes x
   one_only (Err faults.NoMemory) p other q some = inl refl
   one_only x p other q some = inr (one_of_two x other p q (λ e. absurd cc) some)
 

@@ -16,11 +16,11 @@ use Rattle.stream_objects.specs.Gathering.{Gathers, and_then}
 use Rattle.stream_objects.specs.Parts.{IsFirstBroken}
 use Rattle.stream_objects.proofs.Broken.{Judges, all-append, broken_left, broken_right}
 use Rattle.stream_objects.proofs.Children.{single_some, single_none}
-use Rattle.doc_model.specs.readers.ElementParts as elements
+use Rattle.doc_model.specs.readers.ElementSites as elements
 use Rattle.doc_model.specs.wire.NumberedElements.{IsNumberedPackage}
-use Rattle.doc_model.specs.readers.NumberedParts as numbered
+use Rattle.doc_model.specs.readers.NumberedSites as numbered
 use Rattle.doc_model.specs.wire.SeenResponses.{IsSeen, IsCellResponse}
-use Rattle.doc_model.specs.readers.ResponseParts.{Part, packed, InOwnForm, part_start, sub_parts, child_parts, response_parts}
+use Rattle.doc_model.specs.readers.ResponseSites.{Site, packed, InOwnForm, site_start, sub_sites, child_sites, response_sites}
 use Rattle.doc_model.specs.declared.element.NumberedElement.{NumberedElement}
 use Rattle.doc_model.specs.declared.response.CellResponse.{CellResponse}
 use Rattle.doc_model.specs.declared.response.Seen.{Seen}
@@ -32,7 +32,7 @@ use Rattle.wire_responses.specs.ResponseReading.{sub_at, and_answer, and_element
 use Rattle.wire_responses.proofs.SubLaws.{judges_sub, again_sub}
 
 module _ (input : List ℕ) (fits : IsBytes input) where
-  abbrev pub Own : Part → Type 0
+  abbrev pub Own : Site → Type 0
   Own = InOwnForm input
 
   filter_yes : (k : ℕ) (t : Tree) (ts : List Tree) → is_kind k t ≡ true → filter (is_kind k) (t ∷ ts) ≡ t ∷ filter (is_kind k) ts
@@ -43,11 +43,11 @@ module _ (input : List ℕ) (fits : IsBytes input) where
 
   -- ---- a package
 
-  all_packed : (ps : List elements.Part) → AllByRecursion (numbered.InOwnForm input) ps → AllByRecursion Own (map packed ps)
+  all_packed : (ps : List elements.Site) → AllByRecursion (numbered.InOwnForm input) ps → AllByRecursion Own (map packed ps)
   all_packed [] h = tt
   all_packed (p ∷ ps) h = (h.0, all_packed ps h.1)
 
-  broken_packed : (ps : List elements.Part) (place : ℕ) → IsFirstBroken (numbered.InOwnForm input) elements.part_start ps place → IsFirstBroken Own part_start (map packed ps) place
+  broken_packed : (ps : List elements.Site) (place : ℕ) → IsFirstBroken (numbered.InOwnForm input) elements.site_start ps place → IsFirstBroken Own site_start (map packed ps) place
   broken_packed [] place h = h
   broken_packed (p ∷ ps) place (inl h) = inl h
   broken_packed (p ∷ ps) place (inr h) = inr (h.0, broken_packed ps place h.1)
@@ -64,13 +64,13 @@ module _ (input : List ℕ) (fits : IsBytes input) where
     elements : Gathers (IsNumberedPackage input) (filter (is_kind 0x15) ts) new_elements
 
   abbrev JudgesChildren : List Tree → CellResponse → Result CellResponse ℕ → Type 0
-  JudgesChildren ts r = Judges Own part_start (Behind ts r) (flat_map (child_parts input) ts)
+  JudgesChildren ts r = Judges Own site_start (Behind ts r) (flat_map (child_sites input) ts)
 
   not_both : (t : Tree) → kind_of t ≡ 0x41 → is_kind 0x15 t ≡ false
   not_both t e = rw e refl
 
-  answered : (t : Tree) (r : CellResponse) → is_kind 0x41 t ≡ true → is_kind 0x15 t ≡ false → (x : Result Seen ℕ) → Judges Own part_start (IsSeen input t) (sub_parts input t) x
-      → Judges Own part_start (Behind (t ∷ []) r) (sub_parts input t) (and_answer r x)
+  answered : (t : Tree) (r : CellResponse) → is_kind 0x41 t ≡ true → is_kind 0x15 t ≡ false → (x : Result Seen ℕ) → Judges Own site_start (IsSeen input t) (sub_sites input t) x
+      → Judges Own site_start (Behind (t ∷ []) r) (sub_sites input t) (and_answer r x)
   answered t r y n (Ok s) j = (
     record {
       new_answers = s ∷ [];
@@ -85,8 +85,8 @@ module _ (input : List ℕ) (fits : IsBytes input) where
   answered t r y n (Err place) j = j
 
   packaged : (t : Tree) (r : CellResponse) → is_kind 0x41 t ≡ false → is_kind 0x15 t ≡ true → (x : Result (List NumberedElement) ℕ)
-      → Judges (numbered.InOwnForm input) elements.part_start (IsNumberedPackage input t) (elements.package_parts input t) x
-      → Judges Own part_start (Behind (t ∷ []) r) (map packed (elements.package_parts input t)) (and_elements r x)
+      → Judges (numbered.InOwnForm input) elements.site_start (IsNumberedPackage input t) (elements.package_sites input t) x
+      → Judges Own site_start (Behind (t ∷ []) r) (map packed (elements.package_sites input t)) (and_elements r x)
   packaged t r n y (Ok new) j = (
     record {
       new_answers = [];
@@ -96,11 +96,11 @@ module _ (input : List ℕ) (fits : IsBytes input) where
       answers = subst (λ (l : List Tree). Each (IsSeen input) l []) (sym (filter_no 0x41 t [] n)) tt;
       elements = subst (λ (l : List Tree). Gathers (IsNumberedPackage input) l new) (sym (filter_yes 0x15 t [] y)) (new, [], j.0, refl, sym (append-nil new));
     },
-    all_packed (elements.package_parts input t) j.1,
+    all_packed (elements.package_sites input t) j.1,
   )
-  packaged t r n y (Err place) j = broken_packed (elements.package_parts input t) place j
+  packaged t r n y (Err place) j = broken_packed (elements.package_sites input t) place j
 
-  judges_child : (t : Tree) (r : CellResponse) → Judges Own part_start (Behind (t ∷ []) r) (child_parts input t) (child_at input r t)
+  judges_child : (t : Tree) (r : CellResponse) → Judges Own site_start (Behind (t ∷ []) r) (child_sites input t) (child_at input r t)
   unfolding child_at
   judges_child t r =
       elim (eqb_tells (kind_of t) 0x41) [
@@ -140,7 +140,7 @@ module _ (input : List ℕ) (fits : IsBytes input) where
   gathers_join [] ys us vs g h = subst (λ (l : List NumberedElement). Gathers (IsNumberedPackage input) ys (l ++ vs)) (sym g) h
   gathers_join (x ∷ xs) ys us vs g h = (g.0, g.1 ++ vs, g.2, gathers_join xs ys g.1 vs g.3 h, ap (λ (l : List NumberedElement). l ++ vs) g.4 ∙ append_assoc g.0 g.1 vs)
 
-  then_children : (t : Tree) (ts : List Tree) (r more : CellResponse) → Behind (t ∷ []) r more → AllByRecursion Own (child_parts input t) → (x : Result CellResponse ℕ) → JudgesChildren ts more x → JudgesChildren (t ∷ ts) r x
+  then_children : (t : Tree) (ts : List Tree) (r more : CellResponse) → Behind (t ∷ []) r more → AllByRecursion Own (child_sites input t) → (x : Result CellResponse ℕ) → JudgesChildren ts more x → JudgesChildren (t ∷ ts) r x
   then_children t ts r more b own (Ok all) j = (
     record {
       new_answers = b.new_answers ++ j.0.new_answers;
@@ -150,14 +150,14 @@ module _ (input : List ℕ) (fits : IsBytes input) where
       answers = subst (λ (l : List Tree). Each (IsSeen input) l (b.new_answers ++ j.0.new_answers)) (sym (filter_cons 0x41 t ts)) (each_join (filter (is_kind 0x41) (t ∷ [])) (filter (is_kind 0x41) ts) b.new_answers j.0.new_answers b.answers j.0.answers);
       elements = subst (λ (l : List Tree). Gathers (IsNumberedPackage input) l (b.new_elements ++ j.0.new_elements)) (sym (filter_cons 0x15 t ts)) (gathers_join (filter (is_kind 0x15) (t ∷ [])) (filter (is_kind 0x15) ts) b.new_elements j.0.new_elements b.elements j.0.elements);
     },
-    all-append Own part_start (child_parts input t) (flat_map (child_parts input) ts) own j.1,
+    all-append Own site_start (child_sites input t) (flat_map (child_sites input) ts) own j.1,
   )
-  then_children t ts r more b own (Err place) j = broken_right Own part_start (child_parts input t) (flat_map (child_parts input) ts) place own j
+  then_children t ts r more b own (Err place) j = broken_right Own site_start (child_sites input t) (flat_map (child_sites input) ts) place own j
 
   first_child : (t : Tree) (ts : List Tree) (r : CellResponse) → ((more : CellResponse) → JudgesChildren ts more (children_at input ts more)) → (x : Result CellResponse ℕ)
-      → Judges Own part_start (Behind (t ∷ []) r) (child_parts input t) x → JudgesChildren (t ∷ ts) r (and_then x (children_at input ts))
+      → Judges Own site_start (Behind (t ∷ []) r) (child_sites input t) x → JudgesChildren (t ∷ ts) r (and_then x (children_at input ts))
   first_child t ts r rest (Ok more) j = then_children t ts r more j.0 j.1 (children_at input ts more) (rest more)
-  first_child t ts r rest (Err place) j = broken_left Own part_start (child_parts input t) (flat_map (child_parts input) ts) place j
+  first_child t ts r rest (Err place) j = broken_left Own site_start (child_sites input t) (flat_map (child_sites input) ts) place j
 
   judges_children : (ts : List Tree) (r : CellResponse) → JudgesChildren ts r (children_at input ts r)
   judges_children [] r = (record { new_answers = []; new_elements = []; answers_are = sym (append-nil r.answers); elements_are = sym (append-nil r.elements); answers = tt; elements = refl }, tt)
@@ -178,7 +178,7 @@ module _ (input : List ℕ) (fits : IsBytes input) where
       (c, one, subst (IsNumberedPackage input c) (sym all) h.2)
 
   judges_in : (t c : Tree) → kind_of t ≡ 0x62 → HasFields true SpellsByte input t 0 → children_of 0x15 t ≡ c ∷ [] → (x : Result CellResponse ℕ) → JudgesChildren (out-Tree t).children nothing_read x
-      → Judges Own part_start (IsCellResponse input t) (response_parts input t) x
+      → Judges Own site_start (IsCellResponse input t) (response_sites input t) x
   judges_in t c k h one (Ok r) j = (
     record {
       kind = k;
@@ -190,7 +190,7 @@ module _ (input : List ℕ) (fits : IsBytes input) where
   )
   judges_in t c k h one (Err place) j = inr ((k, h, (c, one)), j)
 
-  pub judges_response : (t : Tree) → Judges Own part_start (IsCellResponse input t) (response_parts input t) (response_at input t)
+  pub judges_response : (t : Tree) → Judges Own site_start (IsCellResponse input t) (response_sites input t) (response_at input t)
   unfolding response_at
   judges_response t =
       elim (eqb_tells (kind_of t) 0x62) [
@@ -198,7 +198,7 @@ module _ (input : List ℕ) (fits : IsBytes input) where
         | inr n ↦ rw n.0 (inl (λ own. n.1 own.0, refl))
       ] where
         by_byte : kind_of t ≡ 0x62 → (o : Option ℕ) (s : Option Tree) → package_row input t ≡ o → single (children_of 0x15 t) ≡ s
-            → Judges Own part_start (IsCellResponse input t) (response_parts input t) (if is_zero o && is_some s then children_at input (out-Tree t).children nothing_read else Err (start_of t))
+            → Judges Own site_start (IsCellResponse input t) (response_sites input t) (if is_zero o && is_some s then children_at input (out-Tree t).children nothing_read else Err (start_of t))
         by_byte k None s e g = inl (λ own. let some = byte_again t 0 own.1 in absurd cc, refl)
         by_byte k (Some b) None e g =
             elim (eqb_tells b 0) [

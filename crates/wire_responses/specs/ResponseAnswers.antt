@@ -6,7 +6,7 @@ use Rattle.stream_objects.specs.Trees.{IsTreeAt}
 use Rattle.stream_objects.specs.Answers.{IsFaultAt}
 use Rattle.stream_objects.specs.Parts.{IsFirstBroken}
 use Rattle.doc_model.specs.wire.SeenResponses.{HasVersions, HasSignature, IsCellResponse, ReadsAs}
-use Rattle.doc_model.specs.readers.ResponseParts.{InOwnForm, part_start, response_parts}
+use Rattle.doc_model.specs.readers.ResponseSites.{InOwnForm, site_start, response_sites}
 use Rattle.doc_model.specs.declared.response.CellResponse.{CellResponse}
 use Rattle.data_elements.specs.declared.fault.ElementFault.{ElementFault}
 use Rattle.data_elements.specs.declared.fault.ElementFault.TheVariants as elements
@@ -22,19 +22,19 @@ IsRefusal bytes (TreeFault fault) = HasVersions bytes × HasSignature bytes × I
 IsRefusal bytes (Extra place) = HasVersions bytes × HasSignature bytes × (place < length bytes) × ((tree : Tree) × IsTreeAt bytes tree 12 place)
 IsRefusal bytes (SchemaFault place) =
     HasVersions bytes × HasSignature bytes
-    × ((tree : Tree) × IsTreeAt bytes tree 12 (length bytes) × IsFirstBroken (InOwnForm bytes) part_start (response_parts bytes tree) place)
+    × ((tree : Tree) × IsTreeAt bytes tree 12 (length bytes) × IsFirstBroken (InOwnForm bytes) site_start (response_sites bytes tree) place)
 IsRefusal bytes TooMany =
     HasVersions bytes × HasSignature bytes
     × ((tree : Tree) × IsTreeAt bytes tree 12 (length bytes) × (response : CellResponse) × IsCellResponse bytes tree response × (most_elements < length response.elements))
 IsRefusal bytes NoMemory = Unit {0}
 
-abbrev pub IsAnswer : List ℕ → Result CellResponse WireFault → Type 0
-IsAnswer bytes (Ok response) = ReadsAs bytes response
-IsAnswer bytes (Err fault) = IsRefusal bytes fault
+abbrev pub IsResult : List ℕ → Result CellResponse WireFault → Type 0
+IsResult bytes (Ok response) = ReadsAs bytes response
+IsResult bytes (Err fault) = IsRefusal bytes fault
 
 -- Where memory doesn't run out, no other answer is one.
-abbrev pub IsOnlyAnswer : List ℕ → Result CellResponse WireFault → Type 0
-IsOnlyAnswer bytes answer = (other : Result CellResponse WireFault) → IsAnswer bytes other → other ≢ Err NoMemory → (answer ≡ Err NoMemory) ⊎ (answer ≡ other)
+abbrev pub IsOnlyResult : List ℕ → Result CellResponse WireFault → Type 0
+IsOnlyResult bytes answer = (other : Result CellResponse WireFault) → IsResult bytes other → other ≢ Err NoMemory → (answer ≡ Err NoMemory) ⊎ (answer ≡ other)
 
 -- ---- the steps
 

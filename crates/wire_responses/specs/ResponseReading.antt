@@ -10,9 +10,9 @@ use Rattle.stream_objects.specs.Objects.{is_kind, start_of, children_of}
 use Rattle.stream_objects.specs.ObjectFields.{simple_fields, single}
 use Rattle.stream_objects.specs.Gathering.{and_then}
 use Rattle.stream_objects.specs.declared.object_types.TheConstants.{ALLOCATE_EXTENDED_GUID_RANGE_RESPONSE, CELL_ERROR, DATA_ELEMENT_PACKAGE, HRESULT_ERROR, KNOWLEDGE, QUERY_CHANGES_RESPONSE, READ_ACCESS_RESPONSE, RESPONSE, RESPONSE_ERROR, SUB_RESPONSE, WRITE_ACCESS_RESPONSE}
-use Rattle.doc_model.specs.readers.KnowledgeParts.{guid_row}
+use Rattle.doc_model.specs.readers.KnowledgeSites.{guid_row}
 use Rattle.doc_model.specs.wire.SeenResponses.{cell_error, hresult_error, reply_form, blank}
-use Rattle.doc_model.specs.readers.ResponseParts.{comes_first, sub_row}
+use Rattle.doc_model.specs.readers.ResponseSites.{comes_first, sub_row}
 use Rattle.doc_model.specs.declared.element.NumberedElement.{NumberedElement}
 use Rattle.doc_model.specs.declared.knowledge.Knowledge.{Knowledge}
 use Rattle.doc_model.specs.declared.knowledge.Range.{Range}

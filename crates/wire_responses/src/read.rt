@@ -1,7 +1,7 @@
 // Reading a response.
 ghost use Rattle.std.specs.Prelude.{◌≡◌};
 ghost use Rattle.doc_model.specs.wire.SeenResponses.{HasVersions, HasSignature};
-ghost use Rattle.wire_responses.specs.ResponseAnswers.{IsAnswer, IsOnlyAnswer, GivesIn, GivesResponse, GivesFew};
+ghost use Rattle.wire_responses.specs.ResponseAnswers.{IsResult, IsOnlyResult, GivesIn, GivesResponse, GivesFew};
 ghost use Rattle.data_elements.specs.Answers.{Gives};
 ghost use Rattle.data_elements.specs.NumberedReading.{numbered_package_at};
 ghost use Rattle.data_elements.specs.Rows.{package_row};
@@ -116,7 +116,7 @@ fn read_form(alloc: Global, bytes: &[u8], tree: &Tree) -> Result<CellResponse, W
 fn read_behind(alloc: Global, bytes: &[u8]) -> Result<CellResponse, WireFault>
     requires versions { HasVersions bytes.now }
     requires signature { HasSignature bytes.now }
-    ensures { IsAnswer bytes.now result }
+    ensures { IsResult bytes.now result }
 {
     match read_tree(alloc, bytes, 12) {
         Ok((tree, next)) => {
@@ -133,7 +133,7 @@ fn read_behind(alloc: Global, bytes: &[u8]) -> Result<CellResponse, WireFault>
 
 // The response that the bytes are read as, or why they are none.
 fn find_response(alloc: Global, bytes: &[u8]) -> Result<CellResponse, WireFault>
-    ensures { IsAnswer bytes.now result }
+    ensures { IsResult bytes.now result }
 {
     if !has_versions(bytes) {
         return Err(WireFault::BadFront);
@@ -154,9 +154,9 @@ fn find_response(alloc: Global, bytes: &[u8]) -> Result<CellResponse, WireFault>
 /// answer. A response that says that the whole request failed is in no form here.
 pub fn read_cell_response(alloc: Global, bytes: &[u8]) -> Result<CellResponse, WireFault>
     // It is the response that the bytes are read as, or the refusal with its cause.
-    ensures answer { IsAnswer bytes.now result }
+    ensures answer { IsResult bytes.now result }
     // There is no other answer, unless memory runs out.
-    ensures only { IsOnlyAnswer bytes.now result }
+    ensures only { IsOnlyResult bytes.now result }
 {
     find_response(alloc, bytes)
 }

@@ -1,6 +1,6 @@
 // The fields of the objects of a response.
 ghost use Rattle.std.specs.Prelude.{◌≡◌};
-ghost use Rattle.doc_model.specs.readers.ResponseParts.{sub_row};
+ghost use Rattle.doc_model.specs.readers.ResponseSites.{sub_row};
 ghost use Rattle.doc_model.specs.wire.SeenResponses.{reply_form};
 ghost use Rattle.wire_responses.specs.ResponseReading.{number_row, query_row, allocate_row};
 

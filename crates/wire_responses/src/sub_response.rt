@@ -1,7 +1,7 @@
 // Reading a sub-response.
 ghost use Rattle.std.specs.Prelude.{◌≡◌};
 ghost use Rattle.data_elements.specs.Answers.{Gives};
-ghost use Rattle.doc_model.specs.readers.ResponseParts.{comes_first};
+ghost use Rattle.doc_model.specs.readers.ResponseSites.{comes_first};
 ghost use Rattle.doc_model.specs.wire.SeenResponses.{blank};
 ghost use Rattle.wire_responses.specs.ResponseReading.{failed_at, answered_access_at, pulled_at, stored_at, drawn_at, sub_at};
 

@@ -9,7 +9,7 @@ use Rattle.doc_model.specs.declared.reply.Submitted.TheVariants.{Answered}
 use Rattle.doc_model.specs.rules.Apply.{apply, replay}
 use Rattle.doc_model.specs.rules.Histories.{History, can_move, EachMoves, IsHistory, Fits, Placed, Stands, calls_by, Attempt, HasCause, Tried}
 use Rattle.doc_model.specs.rules.Sound.{Sound, Valid}
-use Rattle.doc_model.specs.rules.Turns.{Turn}
+use Rattle.doc_model.specs.rules.Effects.{Effect}
 
 -- A call that moves is of a kind that may.
 abbrev pub MovesByKind : Type 0
@@ -90,10 +90,10 @@ abbrev pub gained : ℕ → Call → Submitted → Bool → History
 gained n call (Answered reply) moved = if moved then (n, call) ∷ [] else []
 gained n call _ moved = []
 
--- what became of an attempt at this turn: the turn's reply, or there was a cause for none
-abbrev pub Became : Turn → ℕ → Attempt → Submitted → Type 0
-Became turn bodies x (Answered reply) = reply ≡ turn.reply
-Became turn bodies x other = HasCause turn.moved bodies x other
+-- what became of an attempt at this effect: the effect's reply, or there was a cause for none
+abbrev pub Became : Effect → ℕ → Attempt → Submitted → Type 0
+Became effect bodies x (Answered reply) = reply ≡ effect.reply
+Became effect bodies x other = HasCause effect.moved bodies x other
 
 -- A caller without calls stands in each history that has none under its number: so in the empty one.
 abbrev pub StandsNowhere : Type 0

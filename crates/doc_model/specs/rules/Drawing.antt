@@ -3,7 +3,7 @@ use Rattle.std.specs.Prelude.{ℕ, ◌+◌, ◌-◌, ◌^◌, Bool, true, ◌&&�
 use Rattle.doc_model.specs.declared.doc.Doc.{Doc}
 use Rattle.doc_model.specs.declared.reply.Reply.TheVariants.{Drawn}
 use Rattle.doc_model.specs.declared.reply.Code.TheVariants.{NotSupported}
-use Rattle.doc_model.specs.rules.Turns.{Turn, refused}
+use Rattle.doc_model.specs.rules.Effects.{Effect, refused}
 
 -- the last number that may be drawn
 abbrev pub last_number : ℕ
@@ -14,7 +14,7 @@ abbrev pub can_draw : Doc → ℕ → Bool
 can_draw doc count = nat_le 1 count && nat_le count 100_000 && nat_le (doc.drawn + count) last_number
 
 -- a draw of so many numbers. Refused, it takes none.
-abbrev pub draw : Doc → ℕ → Turn
+abbrev pub draw : Doc → ℕ → Effect
 draw doc count =
     if can_draw doc count then record {
       doc = record doc { drawn = doc.drawn + count };

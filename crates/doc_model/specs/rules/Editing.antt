@@ -13,7 +13,7 @@ use Rattle.doc_model.specs.declared.reply.Reply.TheVariants as reply
 use Rattle.doc_model.specs.declared.reply.Code.{Code}
 use Rattle.doc_model.specs.declared.reply.Code.TheVariants as code
 use Rattle.doc_model.specs.rules.Limits.{most_editors, most_keys, most_key_bytes}
-use Rattle.doc_model.specs.rules.Turns.{Turn}
+use Rattle.doc_model.specs.rules.Effects.{Effect}
 
 -- the editors that count at a moment: without those that have expired
 abbrev pub is_live_editor : ℕ → Editor → Bool
@@ -78,55 +78,55 @@ abbrev pub finds_no_place : List ℕ → List Entry → Bool
 finds_no_place key entries = not (list_any (is_key key) entries) && nat_le most_keys (length entries)
 
 -- what a step does with the live editors
-pub data EditorTurn : Type 0 where
-  becomes : List Editor → EditorTurn
-  stays : EditorTurn
-  refuses : Code → EditorTurn
+pub data EditorEffect : Type 0 where
+  becomes : List Editor → EditorEffect
+  stays : EditorEffect
+  refuses : Code → EditorEffect
 
 -- on the client's live editor, and refused where there is none
-abbrev pub on_found : Option Editor → (Editor → EditorTurn) → EditorTurn
+abbrev pub on_found : Option Editor → (Editor → EditorEffect) → EditorEffect
 on_found None own = refuses code.EditorUnknown
 on_found (Some e) own = own e
 
-abbrev pub on_editor : Guid → List Editor → (Editor → EditorTurn) → EditorTurn
+abbrev pub on_editor : Guid → List Editor → (Editor → EditorEffect) → EditorEffect
 on_editor client editors own = on_found (find (is_editor client) editors) own
 
-abbrev pub join : Guid → List ℕ → ℕ → List Editor → EditorTurn
+abbrev pub join : Guid → List ℕ → ℕ → List Editor → EditorEffect
 join client user until editors =
     if nat_lt (length (other_editors client editors)) most_editors then becomes (with_editor client user until editors)
     else refuses code.EditorsFull
 
-abbrev pub set_key : Guid → List ℕ → List ℕ → List Editor → Editor → EditorTurn
+abbrev pub set_key : Guid → List ℕ → List ℕ → List Editor → Editor → EditorEffect
 set_key client key value editors e =
     if is_long (encode_utf8_all key) || is_long value then refuses code.MetadataLong
     else if finds_no_place key e.entries then refuses code.MetadataFull
     else becomes (edited client (λ x. record x { entries = with_entry key value x.entries }) editors)
 
-abbrev pub remove_key : Guid → List ℕ → List Editor → Editor → EditorTurn
+abbrev pub remove_key : Guid → List ℕ → List Editor → Editor → EditorEffect
 remove_key client key editors e =
     if list_any (is_key key) e.entries then becomes (edited client (λ x. record x { entries = without_key key x.entries }) editors)
     else stays
 
 -- a step on the live editors at a moment, by a user
-abbrev pub editor_turn : ℕ → List ℕ → EditorStep → List Editor → EditorTurn
-editor_turn m user (Join client t) editors = join client user (m + t) editors
-editor_turn m user (Leave client) editors = on_editor client editors (λ e. becomes (other_editors client editors))
-editor_turn m user (Refresh client t) editors = on_editor client editors (λ e. becomes (edited client (λ x. record x { until = m + t }) editors))
-editor_turn m user (SetKey client key value) editors = on_editor client editors (set_key client key value editors)
-editor_turn m user (RemoveKey client key) editors = on_editor client editors (remove_key client key editors)
+abbrev pub editor_effect : ℕ → List ℕ → EditorStep → List Editor → EditorEffect
+editor_effect m user (Join client t) editors = join client user (m + t) editors
+editor_effect m user (Leave client) editors = on_editor client editors (λ e. becomes (other_editors client editors))
+editor_effect m user (Refresh client t) editors = on_editor client editors (λ e. becomes (edited client (λ x. record x { until = m + t }) editors))
+editor_effect m user (SetKey client key value) editors = on_editor client editors (set_key client key value editors)
+editor_effect m user (RemoveKey client key) editors = on_editor client editors (remove_key client key editors)
 
 -- the editors afterwards, whether they changed, and the refusal
-abbrev pub editors_after : List Editor → EditorTurn → List Editor
+abbrev pub editors_after : List Editor → EditorEffect → List Editor
 editors_after old (becomes new) = new
 editors_after old stays = old
 editors_after old (refuses c) = old
 
-abbrev pub editors_moved : EditorTurn → Bool
+abbrev pub editors_moved : EditorEffect → Bool
 editors_moved (becomes new) = true
 editors_moved stays = false
 editors_moved (refuses c) = false
 
-abbrev pub editors_refusal : EditorTurn → Option Code
+abbrev pub editors_refusal : EditorEffect → Option Code
 editors_refusal (becomes new) = None
 editors_refusal stays = None
 editors_refusal (refuses c) = Some c
@@ -135,13 +135,13 @@ abbrev pub editors_reply : Option Code → Reply
 editors_reply None = reply.Done
 editors_reply (Some c) = reply.Refused c
 
--- the live editors take this turn; where it doesn't move, the table stays as it is, with who has expired
-abbrev pub after_edit : Doc → ℕ → EditorTurn → Turn
-after_edit doc moment turn = record {
-  doc = record doc { editors = if editors_moved turn then editors_after (live_editors doc.editors moment) turn else doc.editors };
-  reply = editors_reply (editors_refusal turn);
-  moved = editors_moved turn;
+-- the live editors take this effect; where it doesn't move, the table stays as it is, with who has expired
+abbrev pub after_edit : Doc → ℕ → EditorEffect → Effect
+after_edit doc moment effect = record {
+  doc = record doc { editors = if editors_moved effect then editors_after (live_editors doc.editors moment) effect else doc.editors };
+  reply = editors_reply (editors_refusal effect);
+  moved = editors_moved effect;
 }
 
-abbrev pub edit : Doc → ℕ → List ℕ → EditorStep → Turn
-edit doc moment user step = after_edit doc moment (editor_turn moment user step (live_editors doc.editors moment))
+abbrev pub edit : Doc → ℕ → List ℕ → EditorStep → Effect
+edit doc moment user step = after_edit doc moment (editor_effect moment user step (live_editors doc.editors moment))

@@ -14,7 +14,7 @@ use Rattle.doc_model.specs.declared.reply.Submitted.TheVariants.{Answered, DiskF
 use Rattle.doc_model.specs.rules.Apply.{apply, replay}
 use Rattle.doc_model.specs.rules.Limits.{most_bodies}
 use Rattle.doc_model.specs.rules.Sound.{Sound, Valid}
-use Rattle.doc_model.specs.rules.Turns.{Turn}
+use Rattle.doc_model.specs.rules.Effects.{Effect}
 
 abbrev pub History : Type 0
 History = List (ℕ × Call)
@@ -60,11 +60,11 @@ pub record Placed : Type 0 where
   pub reply : Reply
 
 -- what a call does there
-abbrev pub turn_at : Doc → History → ℕ → Call → Turn
-turn_at doc history at call = apply (replay doc (take at history)) call
+abbrev pub effect_at : Doc → History → ℕ → Call → Effect
+effect_at doc history at call = apply (replay doc (take at history)) call
 
 abbrev pub moves : Doc → History → Placed → Bool
-moves doc history x = (turn_at doc history x.at x.call).moved
+moves doc history x = (effect_at doc history x.at x.call).moved
 
 -- From here on the places never fall, and behind what moved they rise.
 abbrev pub GoOn : {X : Type 0} → (X → ℕ) → (X → Bool) → ℕ → List X → Type 0
@@ -82,7 +82,7 @@ moved_calls moved mine = map (λ x. x.call) (filter moved mine)
 -- that moved are just the calls under the number, and the others stand between two changes.
 pub record Stands (doc : Doc) (history : History) (n : ℕ) (mine : List Placed) : Type 0 where
   pub within : All (λ x. x.at ≤ length history) mine
-  pub replies : All (λ x. x.reply ≡ (turn_at doc history x.at x.call).reply) mine
+  pub replies : All (λ x. x.reply ≡ (effect_at doc history x.at x.call).reply) mine
   pub held : All (λ x. moves doc history x ≡ true → slice_get history x.at ≡ Some (n, x.call)) mine
   pub order : GoOn (λ x. x.at) (moves doc history) 0 mine
   pub changes : moved_calls (moves doc history) mine ≡ calls_by n history
@@ -107,7 +107,7 @@ is_answered (Answered reply) = true
 is_answered _ = false
 
 abbrev pub has_moved : Doc → History → Attempt → Bool
-has_moved doc history x = is_answered x.made.submitted && (turn_at doc history x.at x.call).moved
+has_moved doc history x = is_answered x.made.submitted && (effect_at doc history x.at x.call).moved
 
 -- a count of faults rose, or stands at its last number
 abbrev pub Rose : ℕ → ℕ → Type 0
@@ -127,4 +127,4 @@ pub record Tried (doc : Doc) (bodies : ℕ) (history : History) (n : ℕ) (made 
   pub order : GoOn (λ x. x.at) (has_moved doc history) 0 made
   pub stands : Stands doc history n (answered made)
   pub within : All (λ x. x.at ≤ length history) made
-  pub causes : All (λ x. HasCause (turn_at doc history x.at x.call).moved bodies x x.made.submitted) made
+  pub causes : All (λ x. HasCause (effect_at doc history x.at x.call).moved bodies x x.made.submitted) made

@@ -39,21 +39,21 @@ timeout_of (ToExclusive schema client id t release) = Some t
 timeout_of _ = None
 
 -- what a step does with the live lock
-pub data LockTurn : Type 0 where
-  becomes : LockRecord → LockTurn
-  stays : LockTurn
-  refuses : Code → LockTurn
+pub data LockEffect : Type 0 where
+  becomes : LockRecord → LockEffect
+  stays : LockEffect
+  refuses : Code → LockEffect
   -- the client leaves, and is refused
-  leaves : LockRecord → LockTurn
+  leaves : LockRecord → LockEffect
 
 -- on a free lock, on an exclusive lock of this id, and refused on every other
-abbrev pub on_exclusive : Guid → LockRecord → LockTurn → LockTurn → LockTurn
+abbrev pub on_exclusive : Guid → LockRecord → LockEffect → LockEffect → LockEffect
 on_exclusive id Free free own = free
 on_exclusive id (Exclusive held until) free own = if same_guid held id then own else refuses code.AlreadyLocked
 on_exclusive id (Shared schema members) free own = refuses code.AlreadyLocked
 
 -- on a free lock, on a shared lock of this schema id, and refused on every other
-abbrev pub on_shared : Guid → LockRecord → LockTurn → (List Member → LockTurn) → LockTurn
+abbrev pub on_shared : Guid → LockRecord → LockEffect → (List Member → LockEffect) → LockEffect
 on_shared schema Free free own = free
 on_shared schema (Exclusive held until) free own = refuses code.AlreadyLocked
 on_shared schema (Shared held members) free own = if same_guid held schema then own members else refuses code.AlreadyLocked
@@ -65,7 +65,7 @@ abbrev pub others : Guid → List Member → List Member
 others client members = filter (λ x. not (is_client client x)) members
 
 -- on a shared lock of this schema id of which the client is a member
-abbrev pub on_member : Guid → Guid → LockRecord → (List Member → LockTurn) → LockTurn
+abbrev pub on_member : Guid → Guid → LockRecord → (List Member → LockEffect) → LockEffect
 on_member schema client lock own =
     on_shared schema lock (refuses code.NotLocked) (λ members. if list_any (is_client client) members then own members else refuses code.NotLocked)
 
@@ -79,49 +79,49 @@ with_client client until coauthor (x ∷ xs) =
     if is_client client x then member client until (x.coauthor || coauthor) ∷ xs else x ∷ with_client client until coauthor xs
 
 -- the client takes a shared lock of this schema id until then, and changes its own to an exclusive one
-abbrev pub take_shared : Guid → Guid → ℕ → Bool → LockRecord → LockTurn
+abbrev pub take_shared : Guid → Guid → ℕ → Bool → LockRecord → LockEffect
 take_shared schema client until coauthor lock =
     on_shared schema lock (becomes (Shared schema (member client until coauthor ∷ []))) (λ members.
     if nat_lt (length (others client members)) most_sharing then becomes (Shared schema (with_client client until coauthor members))
     else refuses code.TooManyCoauthors)
 
-abbrev pub to_exclusive : Guid → Guid → Guid → ℕ → Bool → LockRecord → LockTurn
+abbrev pub to_exclusive : Guid → Guid → Guid → ℕ → Bool → LockRecord → LockEffect
 to_exclusive schema client id until release lock =
     on_member schema client lock (λ members.
     if length (others client members) == 0 then becomes (Exclusive id until)
     else if release then leaves (Shared schema (others client members)) else refuses code.ManyClients)
 
 -- a step on the live lock at a moment
-abbrev pub lock_turn : ℕ → LockStep → LockRecord → LockTurn
-lock_turn m (TakeExclusive id t) lock = on_exclusive id lock (becomes (Exclusive id (m + t))) (becomes (Exclusive id (m + t)))
-lock_turn m (DropExclusive id) lock = on_exclusive id lock (refuses code.NotLocked) (becomes Free)
-lock_turn m (RefreshExclusive id t) lock = on_exclusive id lock (refuses code.NotLocked) (becomes (Exclusive id (m + t)))
-lock_turn m (CheckExclusive id) lock = on_exclusive id lock stays stays
-lock_turn m (ToShared id schema client t coauthor) lock =
+abbrev pub lock_effect : ℕ → LockStep → LockRecord → LockEffect
+lock_effect m (TakeExclusive id t) lock = on_exclusive id lock (becomes (Exclusive id (m + t))) (becomes (Exclusive id (m + t)))
+lock_effect m (DropExclusive id) lock = on_exclusive id lock (refuses code.NotLocked) (becomes Free)
+lock_effect m (RefreshExclusive id t) lock = on_exclusive id lock (refuses code.NotLocked) (becomes (Exclusive id (m + t)))
+lock_effect m (CheckExclusive id) lock = on_exclusive id lock stays stays
+lock_effect m (ToShared id schema client t coauthor) lock =
     on_exclusive id lock (refuses code.NotLocked) (becomes (Shared schema (member client (m + t) coauthor ∷ [])))
-lock_turn m (TakeShared schema client t coauthor) lock = take_shared schema client (m + t) coauthor lock
-lock_turn m (DropShared schema client) lock = on_member schema client lock (λ members. becomes (shared_by schema (others client members)))
-lock_turn m (RefreshShared schema client t) lock =
+lock_effect m (TakeShared schema client t coauthor) lock = take_shared schema client (m + t) coauthor lock
+lock_effect m (DropShared schema client) lock = on_member schema client lock (λ members. becomes (shared_by schema (others client members)))
+lock_effect m (RefreshShared schema client t) lock =
     on_member schema client lock (λ members. becomes (Shared schema (with_client client (m + t) false members)))
-lock_turn m (ToExclusive schema client id t release) lock = to_exclusive schema client id (m + t) release lock
-lock_turn m (CheckShared schema) lock = on_shared schema lock stays (λ _. stays)
-lock_turn m (Status schema client) lock = on_member schema client lock (λ _. stays)
-lock_turn m (Mark schema client) lock = on_member schema client lock (λ _. stays)
+lock_effect m (ToExclusive schema client id t release) lock = to_exclusive schema client id (m + t) release lock
+lock_effect m (CheckShared schema) lock = on_shared schema lock stays (λ _. stays)
+lock_effect m (Status schema client) lock = on_member schema client lock (λ _. stays)
+lock_effect m (Mark schema client) lock = on_member schema client lock (λ _. stays)
 
 -- the lock afterwards, whether it moved, and the refusal
-abbrev pub lock_after : LockRecord → LockTurn → LockRecord
+abbrev pub lock_after : LockRecord → LockEffect → LockRecord
 lock_after old (becomes new) = new
 lock_after old stays = old
 lock_after old (refuses c) = old
 lock_after old (leaves new) = new
 
-abbrev pub lock_moved : LockTurn → Bool
+abbrev pub lock_moved : LockEffect → Bool
 lock_moved (becomes new) = true
 lock_moved stays = false
 lock_moved (refuses c) = false
 lock_moved (leaves new) = true
 
-abbrev pub lock_refusal : LockTurn → Option Code
+abbrev pub lock_refusal : LockEffect → Option Code
 lock_refusal (becomes new) = None
 lock_refusal stays = None
 lock_refusal (refuses c) = Some c

@@ -22,7 +22,7 @@ use Rattle.doc_model.specs.rules.Limits.{day, most_added, most_added_weight, mos
 use Rattle.doc_model.specs.rules.Locks.{live, allowed}
 use Rattle.doc_model.specs.rules.Sound.{part_weight}
 use Rattle.doc_model.specs.rules.Contents.{same_body}
-use Rattle.doc_model.specs.rules.Turns.{Turn, first_refusal, unless}
+use Rattle.doc_model.specs.rules.Effects.{Effect, first_refusal, unless}
 use Rattle.doc_model.specs.rules.Weights.{weight_of}
 
 -- the elements that are kept for a put, and those that it speaks of: the pending ones, then the package
@@ -131,7 +131,7 @@ added_by doc p = grown doc.added (sent_to doc p)
 abbrev pub commit_refusal : Doc → ℕ → Put → Option Code
 commit_refusal doc moment p = first_refusal (commit_reasons doc moment p (sent_to doc p) (added_by doc p))
 
-abbrev pub kept : Doc → ℕ → Put → Turn
+abbrev pub kept : Doc → ℕ → Put → Effect
 kept doc moment p = record {
   doc = record doc { parts = other_parts doc.parts moment p.index ++ record { index = p.index; elements = sent_to doc p; moment = moment } ∷ [] };
   reply = Stored (record { ranges = [] });
@@ -145,7 +145,7 @@ is_sent es n = list_any (same_ids n.element) es
 abbrev pub serials_of : List Element → List Element → List ℕ
 serials_of added es = map (λ n. n.serial) (filter (is_sent es) (numbered_from 1 added))
 
-abbrev pub committed : Doc → ℕ → List ℕ → Put → Turn
+abbrev pub committed : Doc → ℕ → List ℕ → Put → Effect
 committed doc moment user p = record {
   doc = record doc {
     added = added_by doc p;
@@ -156,7 +156,7 @@ committed doc moment user p = record {
   moved = true;
 }
 
-abbrev pub put : Doc → ℕ → List ℕ → Put → Turn
+abbrev pub put : Doc → ℕ → List ℕ → Put → Effect
 put doc moment user p =
     if is_part p then unless (part_refusal doc moment p) doc (kept doc moment p)
     else unless (commit_refusal doc moment p) doc (committed doc moment user p)

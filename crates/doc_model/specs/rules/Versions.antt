@@ -16,7 +16,7 @@ use Rattle.doc_model.specs.rules.Finding.{Mappings, said, as_index}
 use Rattle.doc_model.specs.rules.Locks.{live, allowed}
 use Rattle.doc_model.specs.rules.Pulls.{stored_index}
 use Rattle.doc_model.specs.rules.Puts.{too_much_added, too_large}
-use Rattle.doc_model.specs.rules.Turns.{Turn, refused, first_refusal, unless}
+use Rattle.doc_model.specs.rules.Effects.{Effect, refused, first_refusal, unless}
 
 -- the k-th version, counted from 1
 abbrev pub version : List Commit → ℕ → Option Commit
@@ -57,7 +57,7 @@ abbrev pub restore_refusal : Doc → Commit → Option Code
 restore_refusal doc c = first_refusal (restore_reasons doc (added_by_restore doc c))
 
 -- the version committed anew, under an index that was never committed
-abbrev pub restored : Doc → ℕ → List ℕ → Commit → Turn
+abbrev pub restored : Doc → ℕ → List ℕ → Commit → Effect
 restored doc moment user c = record {
   doc = record doc {
     added = added_by_restore doc c;
@@ -68,12 +68,12 @@ restored doc moment user c = record {
   moved = true;
 }
 
-abbrev pub restore_version : Doc → ℕ → List ℕ → Option Commit → Turn
+abbrev pub restore_version : Doc → ℕ → List ℕ → Option Commit → Effect
 restore_version doc moment user None = refused doc code.VersionUnknown
 restore_version doc moment user (Some c) = unless (restore_refusal doc c) doc (restored doc moment user c)
 
 -- a restore of the version of this number, by a call that carries this lock id
-abbrev pub restore : Doc → ℕ → List ℕ → ℕ → Option Guid → Turn
+abbrev pub restore : Doc → ℕ → List ℕ → ℕ → Option Guid → Effect
 restore doc moment user number carried =
     if not (allowed (live doc.lock moment) carried) then refused doc code.AlreadyLocked
     else restore_version doc moment user (version doc.commits number)

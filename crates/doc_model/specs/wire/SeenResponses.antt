@@ -60,12 +60,12 @@ abbrev pub IsAccess : List ℕ → Tree → Unit {0} → Type 0
 IsAccess input t u = NoFields input t × One RESPONSE_ERROR (IsSuccess input) t tt
 
 -- 5F, query answer: extended GUID index, and the byte 0, since the answer is whole (2.2.3.1.2)
-abbrev pub QueryAnswer : List ℕ → Tree → ExGuid → Type 0
-QueryAnswer input t index = HasFields false (SpellsExGuid ▹ SpellsByte) input t (index, 0)
+abbrev pub QueryFields : List ℕ → Tree → ExGuid → Type 0
+QueryFields input t index = HasFields false (SpellsExGuid ▹ SpellsByte) input t (index, 0)
 
 -- 81, allocate answer: 16 bytes GUID, compact least, compact greatest
-abbrev pub AllocateAnswer : List ℕ → Tree → Guid × (ℕ × ℕ) → Type 0
-AllocateAnswer input t numbers = HasFields false (SpellsGuid ▹ SpellsCompact ▹ SpellsCompact) input t numbers
+abbrev pub AllocateFields : List ℕ → Tree → Guid × (ℕ × ℕ) → Type 0
+AllocateFields input t numbers = HasFields false (SpellsGuid ▹ SpellsCompact ▹ SpellsCompact) input t numbers
 
 -- ---- sub-responses
 
@@ -101,10 +101,10 @@ abbrev pub Says : List ℕ → Tree → ℕ → ℕ → ReplyForm → Seen → T
 Says input t id kind Failed seen = (n : ℕ) × One RESPONSE_ERROR (IsCellError input) t n × (seen ≡ record (blank id kind) { fault = Some n })
 Says input t id kind Access seen = One READ_ACCESS_RESPONSE (IsAccess input) t tt × One WRITE_ACCESS_RESPONSE (IsAccess input) t tt × (seen ≡ blank id kind)
 Says input t id kind Pulled seen =
-    (i : ExGuid) × (k : Knowledge) × One QUERY_CHANGES_RESPONSE (QueryAnswer input) t i × One KNOWLEDGE (IsKnowledge input) t k × (seen ≡ record (blank id kind) { index = i; knowledge = k })
+    (i : ExGuid) × (k : Knowledge) × One QUERY_CHANGES_RESPONSE (QueryFields input) t i × One KNOWLEDGE (IsKnowledge input) t k × (seen ≡ record (blank id kind) { index = i; knowledge = k })
 Says input t id kind Stored seen = (k : Knowledge) × One KNOWLEDGE (IsKnowledge input) t k × (seen ≡ record (blank id kind) { knowledge = k })
 Says input t id kind Drawn seen =
-    (x : Guid × (ℕ × ℕ)) × One ALLOCATE_EXTENDED_GUID_RANGE_RESPONSE (AllocateAnswer input) t x × (seen ≡ record (blank id kind) { guid = x.0; least = x.1.0; greatest = x.1.1 })
+    (x : Guid × (ℕ × ℕ)) × One ALLOCATE_EXTENDED_GUID_RANGE_RESPONSE (AllocateFields input) t x × (seen ≡ record (blank id kind) { guid = x.0; least = x.1.0; greatest = x.1.1 })
 
 -- a sub-response
 pub record IsSeen (input : List ℕ) (t : Tree) (seen : Seen) : Type 0 where

@@ -1,4 +1,4 @@
-use Rattle.envelope_read.proofs.Turns.{sub_is}
+use Rattle.envelope_read.proofs.AskLoops.{sub_is}
 use Rattle.envelope_read.proofs.asked.sub_of.Goals as goal
 
 pub returns : goal.returns

@@ -1,6 +1,6 @@
 use Rattle.std.proofs.Common.{sym, ap, ◌∙◌, ◌+◌, ◌-◌, ℕ, ltb, drop, arith}
 use Rattle.envelope_read.specs.Verdicts.{sub_count}
-use Rattle.envelope_read.proofs.Turns.{over_here, fewer_left, none_left}
+use Rattle.envelope_read.proofs.AskLoops.{over_here, fewer_left, none_left}
 use Rattle.envelope_read.proofs.read.are_too_many.Goals as goal
 
 pub returns-then-len-left : goal.returns-then-len-left

@@ -2,7 +2,7 @@ use Rattle.std.proofs.Common.{sym, ap, ◌∙◌, ◌+◌, ◌++◌, ◌∷◌, 
 use Rattle.envelope_grammar.specs.declared.raw.RawSub.{RawSub}
 use Rattle.envelope_read.specs.Verdicts.{subs_from, asks_from, ask_with}
 use Rattle.envelope_read.specs.declared.collection.Ask.{Ask}
-use Rattle.envelope_read.proofs.Turns.{prepended, counted, ask_more, ask_bad, asks_end}
+use Rattle.envelope_read.proofs.AskLoops.{prepended, counted, ask_more, ask_bad, asks_end}
 use Rattle.envelope_read.proofs.read.asks_of.Goals as goal
 
 pub subs_from-requires : goal.subs_from-requires

@@ -1,6 +1,6 @@
 use Rattle.std.proofs.Common.{◌≡◌, ◌+◌, drop}
 use Rattle.envelope_read.specs.Verdicts.{sub_count, asks_from}
-use Rattle.envelope_read.proofs.Turns.{prepended}
+use Rattle.envelope_read.proofs.AskLoops.{prepended}
 use Rattle.envelope_read.proofs.read.asks_of.Given as goal
 
 abbrev pub invariant-loop-request : goal.invariant-loop-request

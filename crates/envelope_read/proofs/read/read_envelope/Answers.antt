@@ -1,7 +1,7 @@
 use Rattle.std.proofs.Common.{sym, ap, ◌∙◌, List, Ok, Err, ltb}
 use Rattle.envelope_grammar.specs.declared.raw.RawRequest.{RawRequest}
 use Rattle.envelope_read.specs.Verdicts.{most_subs, sub_count, asks_from}
-use Rattle.envelope_read.proofs.Turns.{none_verdict, many_verdict, read_verdict}
+use Rattle.envelope_read.proofs.AskLoops.{none_verdict, many_verdict, read_verdict}
 use Rattle.envelope_read.proofs.read.read_envelope.Goals as goal
 
 pub returns-in-Err-NotInGrammar-clause-reads : goal.returns-in-Err-NotInGrammar-clause-reads

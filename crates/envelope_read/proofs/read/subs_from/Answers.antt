@@ -1,7 +1,7 @@
 use Rattle.std.proofs.Common.{sym, ap, ◌∙◌, ◌≡◌, ◌+◌, ◌++◌, ◌∷◌, [], ℕ, List, drop, arith}
 use Rattle.envelope_read.specs.Verdicts.{subs_from}
 use Rattle.envelope_read.specs.declared.collection.SubAsk.{SubAsk}
-use Rattle.envelope_read.proofs.Turns.{prepended, sub_more, sub_bad, subs_end}
+use Rattle.envelope_read.proofs.AskLoops.{prepended, sub_more, sub_bad, subs_end}
 use Rattle.envelope_read.proofs.read.subs_from.Goals as goal
 
 pub returns-in-None : goal.returns-in-None

@@ -1,6 +1,6 @@
 use Rattle.std.proofs.Common.{◌≡◌, ◌+◌, drop}
 use Rattle.envelope_read.specs.Verdicts.{subs_from}
-use Rattle.envelope_read.proofs.Turns.{prepended}
+use Rattle.envelope_read.proofs.AskLoops.{prepended}
 use Rattle.envelope_read.proofs.read.subs_from.Given as goal
 
 abbrev pub invariant-loop-i : goal.invariant-loop-i

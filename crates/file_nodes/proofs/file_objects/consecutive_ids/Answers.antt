@@ -1,7 +1,7 @@
 use Rattle.std.proofs.Common.{◌≡◌, ℕ, suc, ◌+◌, ◌-◌, map, refl, ap, arith}
 use Rattle.std.specs.List.{range_with_len}
 use Rattle.file_nodes.specs.Chunks.{id_of}
-use Rattle.file_nodes.proofs.PartLaws.{pushed}
+use Rattle.file_nodes.proofs.ChunkLaws.{pushed}
 use Rattle.file_nodes.proofs.file_objects.consecutive_ids.Goals as goal
 
 pub loop-value-preserved : goal.loop-value-preserved

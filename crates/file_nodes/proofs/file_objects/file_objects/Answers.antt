@@ -1,7 +1,7 @@
 use Rattle.std.proofs.Common.{◌≡◌, ◌+◌, List, [], ◌∷◌, ◌++◌, length, ap, ◌∙◌, arith}
 use Rattle.doc_model.specs.declared.element.Object.{Object}
 use Rattle.file_nodes.specs.Chunking.{objects_of, levels, file_objects}
-use Rattle.file_nodes.proofs.PartLaws.{root_is, length-file_objects}
+use Rattle.file_nodes.proofs.ChunkLaws.{root_is, length-file_objects}
 use Rattle.file_nodes.proofs.file_objects.file_objects.Goals as goal
 
 pub returns : goal.returns

@@ -3,7 +3,7 @@ use Rattle.std.specs.Slice.Iter.{chunks_rest}
 use Rattle.std.proofs.lemmas.List.{append-nil, length-append}
 use Rattle.doc_model.specs.declared.element.Object.{Object}
 use Rattle.file_nodes.specs.Chunking.{objects_of, leaves}
-use Rattle.file_nodes.proofs.PartLaws.{leaves-front, leaves-nil, pushed}
+use Rattle.file_nodes.proofs.ChunkLaws.{leaves-front, leaves-nil, pushed}
 use Rattle.file_nodes.proofs.file_objects.push_leaves.Goals as goal
 
 pub loop-bytes-preserved : goal.loop-bytes-preserved

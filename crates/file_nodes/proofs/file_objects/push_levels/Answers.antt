@@ -3,7 +3,7 @@ use Rattle.std.specs.Int.{div_ceil}
 use Rattle.doc_model.specs.declared.element.Object.{Object}
 use Rattle.file_nodes.specs.Pieces.{pieces}
 use Rattle.file_nodes.specs.Chunking.{objects_of, leaves, levels, node, numbered}
-use Rattle.file_nodes.proofs.PartLaws.{all-few, all-many, on_ok_is}
+use Rattle.file_nodes.proofs.ChunkLaws.{all-few, all-many, on_ok_is}
 use Rattle.file_nodes.proofs.file_objects.push_levels.Goals as goal
 
 pub returns-then-leaves : goal.returns-then-leaves

@@ -5,7 +5,7 @@ use Rattle.std.proofs.lemmas.List.{append-nil, length-append}
 use Rattle.doc_model.specs.declared.element.Object.{Object}
 use Rattle.file_nodes.specs.Pieces.{pieces}
 use Rattle.file_nodes.specs.Chunking.{objects_of, leaves, node, numbered}
-use Rattle.file_nodes.proofs.PartLaws.{nodes-front, nodes-nil, node_over_leaves, pushed}
+use Rattle.file_nodes.proofs.ChunkLaws.{nodes-front, nodes-nil, node_over_leaves, pushed}
 use Rattle.file_nodes.proofs.file_objects.push_nodes.Goals as goal
 
 pub loop-bytes-preserved : goal.loop-bytes-preserved

@@ -3,7 +3,7 @@ use Rattle.std.specs.List.{range_with_len}
 use Rattle.std.specs.Int.{div_ceil}
 use Rattle.compact_values.specs.declared.ids.ExGuid.{ExGuid}
 use Rattle.file_nodes.specs.Chunks.{id_of}
-use Rattle.file_nodes.proofs.PartLaws.{top-few, top-many, ok_is}
+use Rattle.file_nodes.proofs.ChunkLaws.{top-few, top-many, ok_is}
 use Rattle.file_nodes.proofs.file_objects.top_ids.Goals as goal
 
 pub returns-then-leaves : goal.returns-then-leaves

@@ -1,5 +1,5 @@
 use Rattle.std.proofs.Common.{◌≡◌, drop}
-use Rattle.doc_model.specs.readers.ResponseParts.{comes_first}
+use Rattle.doc_model.specs.readers.ResponseSites.{comes_first}
 use Rattle.wire_responses.proofs.sub_response.comes_first.Given as goal
 
 abbrev pub invariant-loop-tree : goal.invariant-loop-tree

@@ -6,7 +6,7 @@ use Rattle.doc_model.specs.declared.reply.Code.{Code}
 use Rattle.doc_model.specs.declared.reply.Code.TheVariants as codes
 use Rattle.doc_model.specs.rules.Apply.{IsPlanned}
 use Rattle.doc_model.specs.rules.Puts.{too_much_added, too_large}
-use Rattle.doc_model.specs.rules.Turns.{unless, first_refusal}
+use Rattle.doc_model.specs.rules.Effects.{unless, first_refusal}
 use Rattle.doc_model.specs.rules.Versions.{added_by_restore, index_like, new_index, restore_refusal, restored}
 use Rattle.plain_core.specs.Cataloging.{listed}
 use Rattle.plain_core.specs.Keeping.{doc_of}
@@ -44,13 +44,13 @@ returns-in_ok-copied-in-None c =
     ap (λ (es : List Element). doc.added ++ es) (c.into_vec.ensures ∙ c.into_fresh.ensures)
     ∙ ap (λ (es : List Element). es ++ catalog.fresh) (sym c.in_ok-catalog.ensures.added) ∙ all in
     let few : all_few (added_by_restore doc old) ≡ true = few-with-like doc.added (new_index doc) old.index now.few in
-    let turn = restored doc c.args.moment c.args.user.now old in
+    let effect = restored doc c.args.moment c.args.user.now old in
     let accepted : restore_refusal doc old ≡ None = restore-accepted doc old c.requires.left fits in
     record {
-      moved = ap (λ (o : Option Code). (unless o doc turn).moved) (sym accepted);
-      reply = ap (λ (o : Option Code). (unless o doc turn).reply) (sym accepted);
+      moved = ap (λ (o : Option Code). (unless o doc effect).moved) (sym accepted);
+      reply = ap (λ (o : Option Code). (unless o doc effect).reply) (sym accepted);
       doc = restore-leads doc old now.usable c.requires.whole c.args.moment c.args.user.now c.into_vec.result.items _ with_fresh few
           (ap (λ (id : ExGuid). record { index = id; moment = c.args.moment; user = c.in_ok-copied-in-None.field-0 }) c.requires.id
           ∙ ap (λ (u : List ℕ). record { index = new_index doc; moment = c.args.moment; user = u }) c.in_ok-copied-in-None.ensures)
-          ∙ ap (λ (o : Option Code). Some (unless o doc turn).doc) (sym accepted);
+          ∙ ap (λ (o : Option Code). Some (unless o doc effect).doc) (sym accepted);
     }

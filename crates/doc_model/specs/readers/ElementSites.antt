@@ -25,11 +25,11 @@ use Rattle.wire_kinds.specs.Row.{IsOf}
 use Rattle.doc_model.specs.wire.ElementRows.{manifest_mapping, cell_mapping, revision_mapping, schema_guid, manifest_root, current_revision, revision_manifest, revision_root, group_reference}
 
 -- a package, an element, a child of an element, and a declaration or the data of an object of a group
-pub data Part : Type 0 where
-  package_object : Tree → Part
-  element : Tree → Part
-  child : Tree → Part
-  member : Tree → Part
+pub data Site : Type 0 where
+  package_object : Tree → Site
+  element : Tree → Site
+  child : Tree → Site
+  member : Tree → Site
 
 -- The kind is known, and of what comes once there is one.
 pub record KindInForm (input : List ℕ) (kind : ℕ) (t : Tree) : Type 0 where
@@ -63,18 +63,18 @@ pub record MemberInForm (input : List ℕ) (t : Tree) : Type 0 where
   pub blob_reference : kind_of t ≡ OBJECT_GROUP_OBJECT_DATA_BLOB_REFERENCE → (references : List ExGuid) × (cells : List CellId) × (blob : ExGuid) × BlobReference input t references cells blob
 
 -- The object is in its form, whatever its children are for themselves.
-abbrev pub InOwnForm : List ℕ → Part → Type 0
+abbrev pub InOwnForm : List ℕ → Site → Type 0
 InOwnForm input (package_object t) = PackageFields input t
 InOwnForm input (element t) = (id : ExGuid) × (serial : Serial) × (kind : ℕ) × ElementFields input t id serial kind × KindInForm input kind t
 InOwnForm input (child t) = ChildInForm input t
 InOwnForm input (member t) = MemberInForm input t
 
 -- where its fields start
-abbrev pub part_start : Part → ℕ
-part_start (package_object t) = start_of t
-part_start (element t) = start_of t
-part_start (child t) = start_of t
-part_start (member t) = start_of t
+abbrev pub site_start : Site → ℕ
+site_start (package_object t) = start_of t
+site_start (element t) = start_of t
+site_start (child t) = start_of t
+site_start (member t) = start_of t
 
 -- ---- reading order
 
@@ -100,18 +100,18 @@ members_in t =
     else []
 
 -- a child and, in a group, what it holds
-abbrev pub child_parts : ℕ → Tree → List Part
-child_parts kind t =
+abbrev pub child_sites : ℕ → Tree → List Site
+child_sites kind t =
     if has_place kind t then child t ∷ (if kind == 5 then map member (members_in t) else [])
     else []
 
 -- Where an element has its fields, they tell by its kind which of its children have a place.
-abbrev pub parts_behind : Option (ExGuid × (Serial × ℕ)) → List Tree → List Part
-parts_behind (Some fields) ts = flat_map (child_parts fields.1.1) ts
-parts_behind None ts = []
+abbrev pub sites_behind : Option (ExGuid × (Serial × ℕ)) → List Tree → List Site
+sites_behind (Some fields) ts = flat_map (child_sites fields.1.1) ts
+sites_behind None ts = []
 
-abbrev pub element_parts : List ℕ → Tree → List Part
-element_parts input t = element t ∷ parts_behind (element_row input t) (out-Tree t).children
+abbrev pub element_sites : List ℕ → Tree → List Site
+element_sites input t = element t ∷ sites_behind (element_row input t) (out-Tree t).children
 
-abbrev pub package_parts : List ℕ → Tree → List Part
-package_parts input t = package_object t ∷ flat_map (element_parts input) (children_of DATA_ELEMENT t)
+abbrev pub package_sites : List ℕ → Tree → List Site
+package_sites input t = package_object t ∷ flat_map (element_sites input) (children_of DATA_ELEMENT t)

@@ -1,10 +1,10 @@
 use Rattle.std.proofs.Common.{◌≡◌, refl, Some, None}
 use Rattle.collection_run.specs.Progress.{IsAt, IsInCell, GoesOnInCell, caller_of, whole, with_cell}
 use Rattle.collection_run.proofs.Closing.{answered, cell_calls, cell_ends}
-use Rattle.collection_run.proofs.progress.turn_in_cell.Goals as goal
+use Rattle.collection_run.proofs.progress.proceed_in_cell.Goals as goal
 
-pub returns-in-Some-clause-turns : goal.returns-in-Some-clause-turns
-returns-in-Some-clause-turns c =
+pub returns-in-Some-clause-proceeds : goal.returns-in-Some-clause-proceeds
+returns-in-Some-clause-proceeds c =
     let p = c.args.p.now in
     let cell = c.args.cell in
     let now = c.next_in_cell.new.cell in
@@ -13,8 +13,8 @@ returns-in-Some-clause-turns c =
     let same : whole (Some c.in-Some.call) now ≡ answered cell now.answers = rw c.in-Some.is at c.in_ok-call.ensures.same in
     cell_calls p cell now c.in-Some.call c.requires.progress c.requires.call goes same c.in_ok-call.ensures.forms
 
-pub returns-in_ok-close-in-None-clause-turns : goal.returns-in_ok-close-in-None-clause-turns
-returns-in_ok-close-in-None-clause-turns c =
+pub returns-in_ok-close-in-None-clause-proceeds : goal.returns-in_ok-close-in-None-clause-proceeds
+returns-in_ok-close-in-None-clause-proceeds c =
     let p = c.args.p.now in
     let cell = c.args.cell in
     let now = c.next_in_cell.new.cell in

@@ -36,13 +36,13 @@ BeginsAs c doc decision what (Calls d call) = IsPlain c doc decision what d call
 BeginsAs c doc decision what (Opens cell) = (cell.answers ≡ []) × ((go_on : Outcome → Process) → run_sub c doc decision what go_on
     ≡ cell_with c cell.doc cell.carried cell.request cell.answers (λ answers. go_on (Cell (response answers) (word_of answers))))
 
--- ---- how many turns there may still be
+-- ---- how many proceeds there may still be
 
 abbrev pub asks_left : List Ask → ℕ
 asks_left [] = 0
 asks_left (ask ∷ asks) = 1 + (2 * length ask.subs + asks_left asks)
 
--- a Cell that is open has one turn less
+-- a Cell that is open has one proceed less
 abbrev pub subs_left : Option CellWork → ℕ → ℕ
 subs_left None count = 2 * count
 subs_left (Some cell) count = 2 * count - 1
@@ -71,12 +71,12 @@ pub record IsOut (q : Progress) (doc : ℕ) : Type 0 where
   pub next : IsNext q call
   pub asks : Asks (process_of q) doc call
 
--- one turn: a call is out, or less is left
+-- one proceed: a call is out, or less is left
 abbrev pub TurnEnds : Progress → Progress → Option ℕ → Type 0
 TurnEnds p q None = (q.call ≡ None) × (turns_left q < turns_left p)
 TurnEnds p q (Some doc) = IsOut q doc
 
-pub record Turns (p q : Progress) (result : Option ℕ) : Type 0 where
+pub record Proceeds (p q : Progress) (result : Option ℕ) : Type 0 where
   pub same : process_of q ≡ process_of p
   pub progress : IsProgress q
   pub ends : TurnEnds p q result

@@ -11,17 +11,17 @@ use Rattle.compact_values.specs.declared.ids.ExGuid.{ExGuid}
 use Rattle.doc_model.specs.rules.Nodes.{node_bytes}
 use Rattle.file_nodes.specs.Pieces.{pieces}
 use Rattle.file_nodes.specs.Chunks.{id_of}
-use Rattle.file_nodes.specs.Chunking.{Part, Levels, inline, leaf, node, numbered, objects_of, ids_of, joined_files, levels_within, leaves, levels, file_objects}
+use Rattle.file_nodes.specs.Chunking.{Chunk, Levels, inline, leaf, node, numbered, objects_of, ids_of, joined_files, levels_within, leaves, levels, file_objects}
 use Rattle.file_nodes.proofs.PieceLaws.{pieces-nil, pieces-front, pieces-append, flat_map-pieces, length-pieces}
 
 -- ---- parts with consecutive values
 
-module _ {X : Type 0} (make : ℕ → X → Part) where
+module _ {X : Type 0} (make : ℕ → X → Chunk) where
   pub numbered-append : (v : ℕ) (xs ys : List X) → numbered make v (xs ++ ys) ≡ numbered make v xs ++ numbered make (v + length xs) ys
   numbered-append v [] ys = ap (λ (n : ℕ). numbered make n ys) (omega arith)
   numbered-append v (x ∷ xs) ys =
       let same : v + 1 + length xs ≡ v + length (x ∷ xs) = omega arith in
-      ap (λ (l : List Part). make v x ∷ l) (numbered-append (v + 1) xs ys ∙ ap (λ (n : ℕ). numbered make (v + 1) xs ++ numbered make n ys) same)
+      ap (λ (l : List Chunk). make v x ∷ l) (numbered-append (v + 1) xs ys ∙ ap (λ (n : ℕ). numbered make (v + 1) xs ++ numbered make n ys) same)
 
   pub length-numbered : (v : ℕ) (xs : List X) → length (numbered make v xs) ≡ length xs
   length-numbered v [] = refl
@@ -77,7 +77,7 @@ leaves-append guid v front rest e =
           let nothing : leaves rest guid (v + div_ceil (length front) 65536) ≡ [] = leaves-nil rest guid (v + div_ceil (length front) 65536) none in
           ap (λ (l : List ℕ). leaves (front ++ l) guid v) (nil_from_length rest none)
           ∙ ap (λ (l : List ℕ). leaves l guid v) (append-nil front)
-          ∙ sym (ap (λ (l : List Part). leaves front guid v ++ l) nothing ∙ append-nil (leaves front guid v))
+          ∙ sym (ap (λ (l : List Chunk). leaves front guid v ++ l) nothing ∙ append-nil (leaves front guid v))
       | inr long ↦ whole_leaves guid v front rest (omega arith)
     ]
 
@@ -102,10 +102,10 @@ nodes-front kind guid v w bytes front rest e f g =
 
 pub nodes-nil : (kind : ℕ) (guid : Guid) (v w : ℕ) (bytes : List ℕ) → length bytes ≡ 0 → numbered (node kind guid) w (pieces 64 (leaves bytes guid v)) ≡ []
 nodes-nil kind guid v w bytes e =
-    ap (λ (l : List Part). numbered (node kind guid) w (pieces 64 l)) (leaves-nil bytes guid v e) ∙ ap (numbered (node kind guid) w) (pieces-nil 64)
+    ap (λ (l : List Chunk). numbered (node kind guid) w (pieces 64 l)) (leaves-nil bytes guid v e) ∙ ap (numbered (node kind guid) w) (pieces-nil 64)
 
 -- the object of a node over parts with these ids and bytes
-pub node_is : (kind : ℕ) (guid : Guid) (w : ℕ) (parts : List Part) (ids : List ExGuid) (bytes : List ℕ) → ids_of parts ≡ ids → joined_files parts ≡ bytes
+pub node_is : (kind : ℕ) (guid : Guid) (w : ℕ) (parts : List Chunk) (ids : List ExGuid) (bytes : List ℕ) → ids_of parts ≡ ids → joined_files parts ≡ bytes
     → (node kind guid w parts).object ≡ inline guid w ids (node_bytes kind (sha256 bytes) (length bytes))
 node_is kind guid w parts ids bytes e f =
     ap (λ (l : List ExGuid). inline guid w l (node_bytes kind (sha256 (joined_files parts)) (length (joined_files parts)))) e
@@ -127,7 +127,7 @@ length-nodes kind guid v w bytes =
 
 -- ---- levels
 
-few_within : (count : ℕ) (guid : Guid) (v : ℕ) (level : List Part) → length level ≤ 64 → levels_within count guid v level ≡ record { all = level; top = level }
+few_within : (count : ℕ) (guid : Guid) (v : ℕ) (level : List Chunk) → length level ≤ 64 → levels_within count guid v level ≡ record { all = level; top = level }
 unfolding levels_within
 few_within zero guid v level f = refl
 few_within (suc count) guid v level f = rw (le-leb (length level) 64 f)
@@ -136,7 +136,7 @@ few_within (suc count) guid v level f = rw (le-leb (length level) 64 f)
 pub levels-few : (bytes : List ℕ) (guid : Guid) (v : ℕ) → length (leaves bytes guid v) ≤ 64 → levels bytes guid v ≡ record { all = leaves bytes guid v; top = leaves bytes guid v }
 levels-few bytes guid v f = few_within (length (leaves bytes guid v)) guid v (leaves bytes guid v) f
 
-two_within : (count : ℕ) (guid : Guid) (v : ℕ) (level : List Part) → 64 < length level → length (pieces 64 level) ≤ 64 → 0 < count
+two_within : (count : ℕ) (guid : Guid) (v : ℕ) (level : List Chunk) → 64 < length level → length (pieces 64 level) ≤ 64 → 0 < count
     → levels_within count guid v level
     ≡ (let nodes = numbered (node 0x1F guid) (v + length level) (pieces 64 level) in record { all = level ++ nodes; top = nodes })
 unfolding levels_within
@@ -185,9 +185,9 @@ module _ (bytes : List ℕ) (guid : Guid) (v : ℕ) where
   all-many f g =
       let count = length-leaves bytes guid v in
       let first = v + length (leaves bytes guid v) in
-      let nodes : ℕ → List Part = λ n. numbered (node 0x1F guid) (v + n) (pieces 64 (leaves bytes guid v)) in
+      let nodes : ℕ → List Chunk = λ n. numbered (node 0x1F guid) (v + n) (pieces 64 (leaves bytes guid v)) in
       ap (λ (l : Levels). objects_of l.all) (levels-many bytes guid v (omega arith) g)
-      ∙ map-append (λ (p : Part). p.object) (leaves bytes guid v) (nodes (length (leaves bytes guid v)))
+      ∙ map-append (λ (p : Chunk). p.object) (leaves bytes guid v) (nodes (length (leaves bytes guid v)))
       ∙ ap (λ (n : ℕ). objects_of (leaves bytes guid v) ++ objects_of (nodes n)) count
 
   -- the leaves and the nodes are no more than 260
@@ -201,11 +201,11 @@ module _ (bytes : List ℕ) (guid : Guid) (v : ℕ) where
               arith,
               ap length (all-many many g),
               length-append (objects_of (leaves bytes guid v)) (objects_of nodes),
-              length-map (leaves bytes guid v) (λ (p : Part). p.object),
-              length-map nodes (λ (p : Part). p.object),
+              length-map (leaves bytes guid v) (λ (p : Chunk). p.object),
+              length-map nodes (λ (p : Chunk). p.object),
               length-nodes 0x1F guid v (v + div_ceil (length bytes) 65536) bytes,
             )
-        | inr few ↦ omega (arith, ap length (all-few few), length-map (leaves bytes guid v) (λ (p : Part). p.object))
+        | inr few ↦ omega (arith, ap length (all-few few), length-map (leaves bytes guid v) (λ (p : Chunk). p.object))
       ]
 
 pub length-file_objects : (bytes : List ℕ) (guid : Guid) (v : ℕ) → length bytes ≤ 16777216 → length (file_objects bytes guid v) ≤ 261
@@ -214,10 +214,10 @@ length-file_objects bytes guid v f = omega (arith, length-all bytes guid (v + 1)
 -- ---- the root
 
 -- its file is that of all parts of the top level
-joined-many : (guid : Guid) (v : ℕ) (groups : List (List Part)) → joined_files (numbered (node 0x1F guid) v groups) ≡ joined_files (flat_map (λ g. g) groups)
+joined-many : (guid : Guid) (v : ℕ) (groups : List (List Chunk)) → joined_files (numbered (node 0x1F guid) v groups) ≡ joined_files (flat_map (λ g. g) groups)
 joined-many guid v [] = refl
 joined-many guid v (g ∷ groups) =
-    ap (λ (l : List ℕ). joined_files g ++ l) (joined-many guid (v + 1) groups) ∙ sym (flat_map-append (λ (p : Part). p.file) g (flat_map (λ h. h) groups))
+    ap (λ (l : List ℕ). joined_files g ++ l) (joined-many guid (v + 1) groups) ∙ sym (flat_map-append (λ (p : Chunk). p.file) g (flat_map (λ h. h) groups))
 
 pub joined_files-top : (bytes : List ℕ) (guid : Guid) (v : ℕ) → length bytes ≤ 16777216 → joined_files (levels bytes guid v).top ≡ bytes
 joined_files-top bytes guid v f =
