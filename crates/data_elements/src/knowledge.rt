@@ -145,6 +145,7 @@ fn read_ranges(alloc: Global, bytes: &[u8], tree: &Tree) -> Result<Ranges, Eleme
     }
 }
 
+// The ranges as knowledge, by the definition of the object: both clauses of `read_knowledge` follow from it.
 fn read_whole(alloc: Global, bytes: &[u8], tree: &Tree) -> Result<Knowledge, ElementFault>
     ensures { IsKnowledgeResult bytes.now tree.now result }
 {

@@ -58,6 +58,8 @@ fn read_all(alloc: Global, bytes: &[u8], tree: &Tree) -> Result<Numbered, Elemen
     }
 }
 
+// From the reader on lists to the definition of the object: a step of its own, since both clauses of `read_numbered` follow
+// from it.
 fn read_whole(alloc: Global, bytes: &[u8], tree: &Tree) -> Result<Numbered, ElementFault>
     ensures { IsNumberedResult bytes.now tree.now result }
 {

@@ -293,6 +293,7 @@ impl Core for PlainCore {
     }
 }
 
+// That a copy is equal holds for each kind of item by its own contract; here it is brought together for a list of any kind.
 fn copy_all<T: Copied>(alloc: Global, items: &[T]) -> Result<Seq<T>, NoMemory>
     ensures { IfOk result (λ all. all ≡ items.now) }
 {

@@ -165,7 +165,7 @@ fn at_header(fault: ValueFault, at: usize) -> ValueFault
     }
 }
 
-/// Reads the header at a place, and gives the place after it.
+/// Reads the header at a place, and gives the place after it: what `header_at` computes, in the words of the spellings.
 pub fn read_header(bytes: &[u8], at: usize) -> Result<(Header, usize), ValueFault>
     requires { at ≤ length bytes.now }
     ensures found { IsFoundAt SpellsHeader bytes.now at result }

@@ -17,7 +17,8 @@ use doc_model::{CellResponse, Numbered};
 use std::alloc::Global;
 use stream_objects::{Tree, TreeFault, object_types, only_child, read_tree};
 
-// The elements of a package, with the values of their serial numbers.
+// The elements of a package, with the values of their serial numbers. `read_numbered` says which package that is; the reader
+// of a response is a function on lists, and takes the elements by one.
 fn read_elements(alloc: Global, bytes: &[u8], tree: &Tree) -> Result<Numbered, ElementFault>
     ensures { Gives result (numbered_package_at bytes.now tree.now) }
 {

@@ -111,7 +111,7 @@ pub fn read_allocate(bytes: &[u8], tree: &Tree) -> Result<(Guid, (u64, u64)), El
     }
 }
 
-/// What a client knows.
+/// What a client knows, by the reader on lists that a response is read by; `read_knowledge` says which object it is.
 pub fn read_known(alloc: Global, bytes: &[u8], tree: &Tree) -> Result<Knowledge, ElementFault>
     ensures { Gives result (known_at bytes.now tree.now) }
 {
