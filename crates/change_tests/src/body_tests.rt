@@ -1,11 +1,12 @@
 // Calls and their bodies, byte by byte. The bytes are put together from docs/PROTOCOL.md.
-use crate::test_forms::{bytes_of, client, guid, is_refused, schema};
+use crate::test_reading::is_refused;
 use change_record::*;
 use compact_values::{ExGuid, Guid, NoMemory, Octets, Seq, Text};
 use doc_model::{Body, Call, EditorStep, Element, LockStep, Put, Sub};
 use std::alloc::Global;
 use std::process::Abort;
 use std::test::Fail;
+use test_forms::{bytes_of, client, guid, schema};
 
 /// What is asked at the moment 7 by `anonymous`, and its body.
 #[derive(Drop)]
@@ -33,7 +34,7 @@ impl Table {
     }
 
     fn add(&mut self, form: &str, moment: u64, sub: Sub) -> Result<(), NoMemory> {
-        let form = bytes_of(self.alloc, form)?;
+        let form = bytes_of(self.alloc, &[form])?;
         let user = Text::from_str(self.alloc, "anonymous")?;
         let call = Call { moment, user, sub };
         self.rows.push(Row { form, call })
@@ -296,7 +297,7 @@ fn is_none_or_its_own(alloc: Global, bytes: &[u8]) -> bool {
 
 /// Whether that is so of the bytes with each of their bits turned.
 fn each_bit_turned(alloc: Global, form: &str) -> Result<bool, NoMemory> {
-    let body = bytes_of(alloc, form)?;
+    let body = bytes_of(alloc, &[form])?;
     let mut turned = body.into_vec();
     for place in 0..turned.len() {
         for bit in [1, 2, 4, 8, 16, 32, 64, 128] {
@@ -320,7 +321,7 @@ fn turned_bits(rt: HostRuntime) -> Result<(), Fail> {
 
 /// Whether a value of so many bytes, in a body that has 35 bytes beside it, is written and read again.
 fn is_read_again(alloc: Global, length: usize) -> Result<bool, NoMemory> {
-    let mut bytes = bytes_of(alloc, "04 U 04 C 03 6B")?;
+    let mut bytes = bytes_of(alloc, &["04 U 04 C 03 6B"])?;
     let content = Octets::from_vec(vec![in alloc; 0_u8; length]?);
     compact_values::write_item(&mut bytes, content.as_slice())?;
     Ok(!is_refused(alloc, bytes.as_slice()))
@@ -336,7 +337,7 @@ fn longest_body(rt: HostRuntime) -> Result<(), Fail> {
 
 /// The body of a put of so many elements without anything, less than 16,384.
 fn many(alloc: Global, count: u16) -> Result<Octets, NoMemory> {
-    let mut bytes = bytes_of(alloc, "01 U 00 00 00 00")?;
+    let mut bytes = bytes_of(alloc, &["01 U 00 00 00 00"])?;
     compact_values::write_compact(&mut bytes, count as u64)?;
     for _ in 0..count {
         bytes.extend_from_slice(&[0x0C, 0x06, 0x00, 0x00, 0x03, 0x05])?;

@@ -10,4 +10,4 @@ mod large_tests;
 #[cfg(test)]
 mod refused_tests;
 #[cfg(test)]
-mod test_forms;
+mod test_reading;

@@ -1,8 +1,9 @@
 // Bytes that are the body of no change.
-use crate::test_forms::{bytes_of, is_refused};
+use crate::test_reading::is_refused;
 use compact_values::NoMemory;
 use std::alloc::Global;
 use std::test::Fail;
+use test_forms::bytes_of;
 
 /// Each with what is wrong in it.
 const REFUSED: [(&str, &str); 36] = [
@@ -75,7 +76,7 @@ const REFUSED: [(&str, &str); 36] = [
 ];
 
 fn is_form_refused(alloc: Global, form: &str) -> Result<bool, NoMemory> {
-    let bytes = bytes_of(alloc, form)?;
+    let bytes = bytes_of(alloc, &[form])?;
     Ok(is_refused(alloc, bytes.as_slice()))
 }
 

@@ -1,8 +1,8 @@
 // Calls that can't be kept: each kind of change with each fault. What only reads goes on, unless there is no memory.
 use crate::test_documents::Change;
 use crate::test_envelopes::{Asked, Sub, Told, play_changing};
-use crate::test_forms::File;
 use crate::test_host::Host;
+use crate::test_saves::File;
 use std::alloc::Global;
 use std::process::Abort;
 use std::test::Fail;

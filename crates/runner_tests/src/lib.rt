@@ -20,8 +20,8 @@ mod test_documents;
 #[cfg(test)]
 mod test_envelopes;
 #[cfg(test)]
-mod test_forms;
-#[cfg(test)]
 mod test_host;
+#[cfg(test)]
+mod test_saves;
 #[cfg(test)]
 mod version_tests;

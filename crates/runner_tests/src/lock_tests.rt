@@ -1,6 +1,6 @@
 // The lock of a document, and its coauthors.
 use crate::test_envelopes::{Asked, Step, Sub, Told, play, play_steps};
-use crate::test_forms::File;
+use crate::test_saves::File;
 use std::test::Fail;
 
 const FIRST: File = File { byte: 0xA };

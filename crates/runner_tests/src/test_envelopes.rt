@@ -1,11 +1,12 @@
 // Envelopes, and the answers that the formats give them.
 use crate::test_documents::Change;
-use crate::test_forms::{File, add_base64, add_form, add_short, saved};
 use crate::test_host::Host;
+use crate::test_saves::{File, add_base64, add_short, saved};
 use compact_values::{NoMemory, Octets};
 use std::alloc::Global;
 use std::process::Abort;
 use std::test::Fail;
+use test_forms::add_form;
 
 /// The address of the document of most tests.
 pub const A: &str = "http://h/a.docx";

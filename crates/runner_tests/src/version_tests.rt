@@ -1,7 +1,7 @@
 // The versions of a document.
 use crate::test_envelopes::{Asked, Step, Told, play_on};
-use crate::test_forms::File;
 use crate::test_host::Host;
+use crate::test_saves::File;
 use std::test::Fail;
 
 const FIRST: File = File { byte: 0xA };

@@ -4,7 +4,7 @@ use crate::test_bodies::{
     a_bare_revision, a_blob, a_blob_group, a_group, a_linked_group, a_revision, a_storage,
     an_index, an_inline_group,
 };
-use crate::test_forms::{bytes_of, guid, id, list_of};
+use crate::test_lists::list_of;
 use compact_values::{ExGuid, NoMemory, Octets, Seq, Serial};
 use data_elements::*;
 use doc_model::{Body, Element, Elements, Numbered, NumberedElement};
@@ -12,6 +12,7 @@ use std::alloc::Global;
 use std::process::Abort;
 use std::test::Fail;
 use stream_objects::read_tree;
+use test_forms::{bytes_of, guid, id};
 
 /// The start of an element without an id and with the serial number 7 of the GUID, up to its kind.
 const HEAD: &str = "0C 36 00 80 G 07 00 00 00 00 00 00 00";

@@ -1,11 +1,11 @@
 // Knowledge, byte by byte. The start of a 44 is 26 02 20 00, and its end 13 01.
-use crate::test_forms::{bytes_of, guid};
 use compact_values::{NoMemory, Octets, Seq};
 use data_elements::*;
 use doc_model::{Knowledge, Range};
 use std::alloc::Global;
 use std::test::Fail;
 use stream_objects::read_tree;
+use test_forms::{bytes_of, guid};
 
 /// The ranges that are known, and the form in which they are written.
 const WRITTEN: [(&[(u64, u64)], &str); 3] = [

@@ -14,4 +14,4 @@ mod response_tests;
 #[cfg(test)]
 mod test_bodies;
 #[cfg(test)]
-mod test_forms;
+mod test_lists;

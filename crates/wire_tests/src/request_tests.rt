@@ -1,54 +1,29 @@
-use compact_values::{ExGuid, NoMemory, Octets, Seq, guid_of};
+use compact_values::{ExGuid, NoMemory, Octets, Seq};
 use doc_model::{
     Body, CellRequest, Element, Elements, Knowledge, Range, Ranges, WireKind, WireSub, WireSubs,
 };
 use std::alloc::Global;
 use std::test::Fail;
 use stream_objects::TreeFault;
+use test_forms::{add_form, bytes_of, guid, id};
 use wire_requests::*;
 
 /// A request with one sub-request, which draws 1,000 numbers.
-const DRAW: [u8; 38] = [
-    0x0C, 0x00, 0x0B, 0x00, 0x9C, 0xCF, 0x29, 0xF3, 0x39, 0x94, 0x06, 0x9B, 0x06, 0x02, 0x00, 0x00,
-    0x16, 0x02, 0x06, 0x00, 0x03, 0x17, 0x00, 0x02, 0x04, 0x06, 0x00, 0xA2, 0x0F, 0x00, 0x0B, 0x01,
-    0xAC, 0x02, 0x00, 0x55, 0x03, 0x01,
+const DRAW: [&str; 5] = [
+    "Q",
+    "16 02 06 00 03 17 00",
+    "02 04 06 00 A2 0F 00",
+    "0B 01",
+    "P",
 ];
 
-/// The front, and the start of an object 40.
-const HEAD: [u8; 16] = [
-    0x0C, 0x00, 0x0B, 0x00, 0x9C, 0xCF, 0x29, 0xF3, 0x39, 0x94, 0x06, 0x9B, 0x06, 0x02, 0x00, 0x00,
-];
+/// A 42 with the id 1, of kind 2, up to its 51.
+const QUERY: &str = "16 02 06 00 03 05 00 8A 02 02 00 00";
 
-/// A package without elements, and the end of a 40.
-const TAIL: [u8; 6] = [0xAC, 0x02, 0x00, 0x55, 0x03, 0x01];
+/// Objects 10 and 44 up to the 14 in them; and their ends.
+const KNOWLEDGE: &str = "84 00 26 02 20 00 K A4 00";
 
-/// A 42 with the id 1, of kind 2, up to its 51, and the end of a 42.
-const QUERY: [u8; 12] = [
-    0x16, 0x02, 0x06, 0x00, 0x03, 0x05, 0x00, 0x8A, 0x02, 0x02, 0x00, 0x00,
-];
-
-const QUERY_END: [u8; 2] = [0x0B, 0x01];
-
-/// Objects 10 and 44 up to the 14 in them, with the GUID of cell knowledge; and their ends.
-const KNOWLEDGE: [u8; 24] = [
-    0x84, 0x00, 0x26, 0x02, 0x20, 0x00, 0xF6, 0x35, 0x7A, 0x32, 0x61, 0x07, 0x14, 0x44, 0x96, 0x86,
-    0x51, 0xE9, 0x00, 0x66, 0x7A, 0x4D, 0xA4, 0x00,
-];
-
-const KNOWLEDGE_END: [u8; 4] = [0x51, 0x13, 0x01, 0x41];
-
-/// The bytes of the GUID 00112233-4455-6677-8899-AABBCCDDEEFF.
-const G: [u8; 16] = [
-    0x33, 0x22, 0x11, 0x00, 0x55, 0x44, 0x77, 0x66, 0x88, 0x99, 0xAA, 0xBB, 0xCC, 0xDD, 0xEE, 0xFF,
-];
-
-fn joined(alloc: Global, parts: &[&[u8]]) -> Result<Octets, NoMemory> {
-    let mut out = Octets::new(alloc);
-    for part in parts {
-        out.extend_from_slice(part)?;
-    }
-    Ok(out)
-}
+const KNOWLEDGE_END: &str = "51 13 01 41";
 
 fn one_sub(alloc: Global, kind: u64, what: WireKind) -> Result<CellRequest, NoMemory> {
     let mut subs = Seq::new(alloc);
@@ -59,7 +34,7 @@ fn one_sub(alloc: Global, kind: u64, what: WireKind) -> Result<CellRequest, NoMe
 
 fn one_range(alloc: Global, from: u64, to: u64) -> Result<Knowledge, NoMemory> {
     let mut ranges = Seq::new(alloc);
-    let guid = guid_of(&G);
+    let guid = guid();
     ranges.push(Range { guid, from, to })?;
     Ok(Knowledge { ranges })
 }
@@ -78,20 +53,21 @@ fn fault_of(alloc: Global, bytes: &[u8]) -> Option<WireFault> {
 #[test]
 fn a_draw_is_read_and_written(rt: HostRuntime) -> Result<(), Fail> {
     let alloc = rt.alloc();
-    let request = one_sub(alloc, 11, WireKind::Draw { count: 1000 })
-        .ok()
-        .ok_or("memory")?;
-    assert!(rt; is_read_as(alloc, &DRAW, &request));
-    let written = write_cell_request(alloc, &request).ok().ok_or("memory")?;
-    assert_eq!(rt; written.as_slice(), DRAW.as_slice());
+    let draw = bytes_of(alloc, &DRAW)?;
+    let request = one_sub(alloc, 11, WireKind::Draw { count: 1000 })?;
+    assert!(rt; is_read_as(alloc, draw.as_slice(), &request));
+    let written = write_cell_request(alloc, &request)?;
+    assert_eq!(rt; written.as_slice(), draw.as_slice());
     Ok(())
 }
 
 #[test]
 fn each_cut_is_refused(rt: HostRuntime) -> Result<(), Fail> {
     let alloc = rt.alloc();
-    for cut in 0..DRAW.len() {
-        let fault = fault_of(alloc, &DRAW[..cut]).ok_or("a cut is no request")?;
+    let draw = bytes_of(alloc, &DRAW)?;
+    let draw = draw.as_slice();
+    for cut in 0..draw.len() {
+        let fault = fault_of(alloc, &draw[..cut]).ok_or("a cut is no request")?;
         let wanted = if cut < 12 {
             WireFault::BadFront
         } else {
@@ -101,37 +77,41 @@ fn each_cut_is_refused(rt: HostRuntime) -> Result<(), Fail> {
         };
         assert!(rt; fault == wanted);
     }
-    let longer = joined(alloc, &[&DRAW, &[0]]).ok().ok_or("memory")?;
+    let mut longer = bytes_of(alloc, &DRAW)?;
+    longer.push(0)?;
     assert!(rt; fault_of(alloc, longer.as_slice()) == Some(WireFault::Extra { place: 38 }));
     Ok(())
 }
 
+/// The signature of a response, behind these fronts, and an end of another type behind the package.
 #[test]
-fn fronts_are_judged_first(rt: HostRuntime) {
-    let alloc = rt.alloc();
-    let mut other = DRAW;
-    other[4] = 0x9D;
-    other[37] = 0x00;
-    assert!(rt; fault_of(alloc, &other) == Some(WireFault::BadSignature));
-    other[0] = 11;
-    assert!(rt; fault_of(alloc, &other) == Some(WireFault::BadFront));
-    other[0] = 14;
-    other[2] = 13;
-    assert!(rt; fault_of(alloc, &other) == Some(WireFault::BadFront));
+fn fronts_are_judged_first(rt: HostRuntime) -> Result<(), Fail> {
+    let rows = [
+        ("0C 00 0B 00", WireFault::BadSignature),
+        ("0B 00 0B 00", WireFault::BadFront),
+        ("0E 00 0D 00", WireFault::BadFront),
+    ];
+    for (front, fault) in rows {
+        let bytes = bytes_of(
+            rt.alloc(),
+            &[
+                front,
+                "9D CF 29 F3 39 94 06 9B 06 02 00 00 AC 02 00 55 03 00",
+            ],
+        )?;
+        assert!(rt; fault_of(rt.alloc(), bytes.as_slice()) == Some(fault));
+    }
+    Ok(())
 }
 
 #[test]
 fn a_query_without_knowledge_knows_nothing(rt: HostRuntime) -> Result<(), Fail> {
     let alloc = rt.alloc();
-    let bytes = joined(alloc, &[&HEAD, &QUERY, &QUERY_END, &TAIL])
-        .ok()
-        .ok_or("memory")?;
+    let bytes = bytes_of(alloc, &["Q", QUERY, "0B 01", "P"])?;
     let knowledge = Knowledge {
         ranges: Seq::new(alloc),
     };
-    let request = one_sub(alloc, 2, WireKind::Pull { knowledge })
-        .ok()
-        .ok_or("memory")?;
+    let request = one_sub(alloc, 2, WireKind::Pull { knowledge })?;
     assert!(rt; is_read_as(alloc, bytes.as_slice(), &request));
     Ok(())
 }
@@ -141,31 +121,23 @@ fn a_query_without_knowledge_knows_nothing(rt: HostRuntime) -> Result<(), Fail> 
 #[test]
 fn the_first_knowledge_counts_wherever_it_stands(rt: HostRuntime) -> Result<(), Fail> {
     let alloc = rt.alloc();
-    let bytes = joined(
-        alloc,
-        &[
-            &HEAD,
-            &QUERY,
-            &[0x92, 0x02, 0x00, 0x00],
-            &[0xEE, 0x02, 0x00, 0x00],
-            &KNOWLEDGE,
-            &[0x78, 0x24],
-            &G,
-            &[0x0B, 0x03],
-            &[0xB8, 0x02, 0x00],
-            &KNOWLEDGE_END,
-            &[0x77, 0x01],
-            &[0x84, 0x00, 0x41],
-            &QUERY_END,
-            &TAIL,
-        ],
-    )
-    .ok()
-    .ok_or("memory")?;
-    let knowledge = one_range(alloc, 5, 1).ok().ok_or("memory")?;
-    let request = one_sub(alloc, 2, WireKind::Pull { knowledge })
-        .ok()
-        .ok_or("memory")?;
+    let form = [
+        "Q",
+        QUERY,
+        "92 02 00 00",
+        "EE 02 00 00",
+        KNOWLEDGE,
+        "78 24 G 0B 03",
+        "B8 02 00",
+        KNOWLEDGE_END,
+        "77 01",
+        "84 00 41",
+        "0B 01",
+        "P",
+    ];
+    let bytes = bytes_of(alloc, &form)?;
+    let knowledge = one_range(alloc, 5, 1)?;
+    let request = one_sub(alloc, 2, WireKind::Pull { knowledge })?;
     assert!(rt; is_read_as(alloc, bytes.as_slice(), &request));
     Ok(())
 }
@@ -174,46 +146,30 @@ fn the_first_knowledge_counts_wherever_it_stands(rt: HostRuntime) -> Result<(), 
 #[test]
 fn only_the_first_knowledge_is_judged(rt: HostRuntime) -> Result<(), Fail> {
     let alloc = rt.alloc();
-    let first: [&[u8]; 6] = [
-        &HEAD,
-        &QUERY,
-        &[0x80, 0x00],
-        &[0x84, 0x00, 0x41],
-        &QUERY_END,
-        &TAIL,
-    ];
-    let bytes = joined(alloc, &first).ok().ok_or("memory")?;
+    let bytes = bytes_of(alloc, &["Q", QUERY, "80 00", "84 00 41", "0B 01", "P"])?;
     assert!(rt; fault_of(alloc, bytes.as_slice()) == Some(WireFault::SchemaFault { place: 30 }));
-    let second: [&[u8]; 6] = [
-        &HEAD,
-        &QUERY,
-        &[0x84, 0x00, 0x41],
-        &[0x80, 0x00],
-        &QUERY_END,
-        &TAIL,
-    ];
-    let bytes = joined(alloc, &second).ok().ok_or("memory")?;
+    let bytes = bytes_of(alloc, &["Q", QUERY, "84 00 41", "80 00", "0B 01", "P"])?;
     assert!(rt; fault_of(alloc, bytes.as_slice()) == None);
     Ok(())
 }
 
 /// So many times the same sub-request.
-fn repeated(alloc: Global, sub: &[u8], times: usize) -> Result<Octets, NoMemory> {
-    let mut out = joined(alloc, &[&HEAD])?;
+fn repeated(alloc: Global, sub: &str, times: usize) -> Result<Octets, NoMemory> {
+    let mut out = bytes_of(alloc, &["Q"])?;
     for _ in 0..times {
-        out.extend_from_slice(sub)?;
+        add_form(&mut out, sub)?;
     }
-    out.extend_from_slice(&TAIL)?;
+    add_form(&mut out, "P")?;
     Ok(out)
 }
 
 #[test]
 fn limits_of_sub_requests(rt: HostRuntime) -> Result<(), Fail> {
     let alloc = rt.alloc();
-    let access = [0x16, 0x02, 0x06, 0x00, 0x03, 0x03, 0x00, 0x0B, 0x01];
-    let most = repeated(alloc, &access, 64).ok().ok_or("memory")?;
+    let access = "16 02 06 00 03 03 00 0B 01";
+    let most = repeated(alloc, access, 64)?;
     assert!(rt; fault_of(alloc, most.as_slice()) == None);
-    let more = repeated(alloc, &access, 65).ok().ok_or("memory")?;
+    let more = repeated(alloc, access, 65)?;
     assert!(rt; fault_of(alloc, more.as_slice()) == Some(WireFault::SchemaFault { place: 596 }));
     Ok(())
 }
@@ -221,13 +177,10 @@ fn limits_of_sub_requests(rt: HostRuntime) -> Result<(), Fail> {
 #[test]
 fn limits_of_puts(rt: HostRuntime) -> Result<(), Fail> {
     let alloc = rt.alloc();
-    let put = [
-        0x16, 0x02, 0x06, 0x00, 0x03, 0x0B, 0x00, 0xD2, 0x02, 0x06, 0x00, 0x00, 0x00, 0x80, 0x0B,
-        0x01,
-    ];
-    let most = repeated(alloc, &put, 4).ok().ok_or("memory")?;
+    let put = "16 02 06 00 03 0B 00 D2 02 06 00 00 00 80 0B 01";
+    let most = repeated(alloc, put, 4)?;
     assert!(rt; fault_of(alloc, most.as_slice()) == None);
-    let more = repeated(alloc, &put, 5).ok().ok_or("memory")?;
+    let more = repeated(alloc, put, 5)?;
     assert!(rt; fault_of(alloc, more.as_slice()) == Some(WireFault::SchemaFault { place: 91 }));
     Ok(())
 }
@@ -236,31 +189,22 @@ fn limits_of_puts(rt: HostRuntime) -> Result<(), Fail> {
 #[test]
 fn a_put_in_either_mark(rt: HostRuntime) -> Result<(), Fail> {
     let alloc = rt.alloc();
-    let bytes = joined(
-        alloc,
-        &[
-            &HEAD,
-            &[0x16, 0x02, 0x08, 0x00, 0x03, 0x0B, 0x00, 0x07],
-            &[0xD6, 0x02, 0x28, 0x00, 0x00, 0x0C],
-            &G,
-            &[0x81, 0x55],
-            &[0xB8, 0x00],
-            &[0x6B, 0x01],
-            &QUERY_END,
-            &TAIL,
-        ],
-    )
-    .ok()
-    .ok_or("memory")?;
+    let form = [
+        "Q",
+        "16 02 08 00 03 0B 00 07",
+        "D6 02 28 00 00 0C G 81 55",
+        "B8 00",
+        "6B 01",
+        "0B 01",
+        "P",
+    ];
+    let bytes = bytes_of(alloc, &form)?;
     let what = WireKind::Put {
         index: ExGuid::Null,
-        expected: ExGuid::Id {
-            guid: guid_of(&G),
-            value: 1,
-        },
+        expected: id(1),
         flags: 0x81,
     };
-    let request = one_sub(alloc, 5, what).ok().ok_or("memory")?;
+    let request = one_sub(alloc, 5, what)?;
     assert!(rt; is_read_as(alloc, bytes.as_slice(), &request));
     Ok(())
 }
@@ -268,12 +212,13 @@ fn a_put_in_either_mark(rt: HostRuntime) -> Result<(), Fail> {
 #[test]
 fn other_kinds_are_unknown(rt: HostRuntime) -> Result<(), Fail> {
     let alloc = rt.alloc();
-    for kind in [3, 12] {
-        let sub = [0x16, 0x02, 0x06, 0x00, 0x03, 2 * kind + 1, 0x00, 0x0B, 0x01];
-        let bytes = joined(alloc, &[&HEAD, &sub, &TAIL]).ok().ok_or("memory")?;
-        let request = one_sub(alloc, kind as u64, WireKind::Unknown)
-            .ok()
-            .ok_or("memory")?;
+    let rows = [
+        (3, "16 02 06 00 03 07 00 0B 01"),
+        (12, "16 02 06 00 03 19 00 0B 01"),
+    ];
+    for (kind, sub) in rows {
+        let bytes = bytes_of(alloc, &["Q", sub, "P"])?;
+        let request = one_sub(alloc, kind, WireKind::Unknown)?;
         assert!(rt; is_read_as(alloc, bytes.as_slice(), &request));
     }
     Ok(())
@@ -281,26 +226,26 @@ fn other_kinds_are_unknown(rt: HostRuntime) -> Result<(), Fail> {
 
 /// A package of so many cell manifests, and behind it a 42 without fields if it is to be broken.
 fn many(alloc: Global, count: usize, broken: bool) -> Result<Octets, NoMemory> {
-    let mut out = joined(alloc, &[&HEAD, &[0xAC, 0x02, 0x00]])?;
+    let mut out = bytes_of(alloc, &["Q", "AC 02 00"])?;
     for _ in 0..count {
-        out.extend_from_slice(&[0x0C, 0x06, 0x00, 0x00, 0x07, 0x58, 0x02, 0x00, 0x05])?;
+        add_form(&mut out, "0C 06 00 00 07 58 02 00 05")?;
     }
     out.push(0x55)?;
     if broken {
-        out.extend_from_slice(&[0x16, 0x02, 0x00, 0x00, 0x0B, 0x01])?;
+        add_form(&mut out, "16 02 00 00 0B 01")?;
     }
-    out.extend_from_slice(&[0x03, 0x01])?;
+    add_form(&mut out, "03 01")?;
     Ok(out)
 }
 
 #[test]
 fn too_many_elements_are_told_last(rt: HostRuntime) -> Result<(), Fail> {
     let alloc = rt.alloc();
-    let most = many(alloc, 8192, false).ok().ok_or("memory")?;
+    let most = many(alloc, 8192, false)?;
     assert!(rt; fault_of(alloc, most.as_slice()) == None);
-    let more = many(alloc, 8193, false).ok().ok_or("memory")?;
+    let more = many(alloc, 8193, false)?;
     assert!(rt; fault_of(alloc, more.as_slice()) == Some(WireFault::TooMany));
-    let broken = many(alloc, 8193, true).ok().ok_or("memory")?;
+    let broken = many(alloc, 8193, true)?;
     assert!(rt;
         fault_of(alloc, broken.as_slice()) == Some(WireFault::SchemaFault { place: 73_761 })
     );
@@ -317,10 +262,7 @@ fn add(subs: &mut WireSubs, kind: u64, what: WireKind) -> Result<(), NoMemory> {
 
 /// A sub-request of each kind, and one element.
 fn each_kind(alloc: Global) -> Result<CellRequest, NoMemory> {
-    let index = ExGuid::Id {
-        guid: guid_of(&G),
-        value: 7,
-    };
+    let index = id(7);
     let mut subs = Seq::new(alloc);
     add(&mut subs, 1, WireKind::Access)?;
     let knowledge = one_range(alloc, 1, 500)?;
@@ -345,8 +287,8 @@ fn each_kind(alloc: Global) -> Result<CellRequest, NoMemory> {
 #[test]
 fn what_is_written_is_read_again(rt: HostRuntime) -> Result<(), Fail> {
     let alloc = rt.alloc();
-    let request = each_kind(alloc).ok().ok_or("memory")?;
-    let written = write_cell_request(alloc, &request).ok().ok_or("memory")?;
+    let request = each_kind(alloc)?;
+    let written = write_cell_request(alloc, &request)?;
     assert!(rt; is_read_as(alloc, written.as_slice(), &request));
     Ok(())
 }

@@ -10,69 +10,91 @@ use doc_model::{
 };
 use std::alloc::Global;
 use std::test::Fail;
+use test_forms::{bytes_of, guid, id};
 use wire_responses::*;
 
-/// 00112233-4455-6677-8899-aabbccddeeff
-const DOCUMENT: Guid = Guid {
-    number: 0x0011_2233_4455_6677_8899_aabb_ccdd_eeff,
-};
-
 /// The numbers 1 to 1000 are drawn.
-const DRAWN: [u8; 55] = [
-    0x0C, 0x00, 0x0B, 0x00, 0x9D, 0xCF, 0x29, 0xF3, 0x39, 0x94, 0x06, 0x9B, 0x16, 0x03, 0x02, 0x00,
-    0x00, 0xAC, 0x02, 0x00, 0x55, 0x0E, 0x02, 0x06, 0x00, 0x03, 0x17, 0x00, 0x0A, 0x04, 0x26, 0x00,
-    0x33, 0x22, 0x11, 0x00, 0x55, 0x44, 0x77, 0x66, 0x88, 0x99, 0xAA, 0xBB, 0xCC, 0xDD, 0xEE, 0xFF,
-    0x03, 0xA2, 0x0F, 0x07, 0x01, 0x8B, 0x01,
+const DRAWN: &[&str] = &[
+    "R",
+    "0E 02 06 00 03 17 00",
+    "0A 04 26 00 G 03 A2 0F",
+    "07 01",
+    "8B 01",
 ];
 
 /// A draw is refused with 4.
-const REFUSED: [u8; 62] = [
-    0x0C, 0x00, 0x0B, 0x00, 0x9D, 0xCF, 0x29, 0xF3, 0x39, 0x94, 0x06, 0x9B, 0x16, 0x03, 0x02, 0x00,
-    0x00, 0xAC, 0x02, 0x00, 0x55, 0x0E, 0x02, 0x06, 0x00, 0x03, 0x17, 0x01, 0x6E, 0x02, 0x20, 0x00,
-    0x56, 0xA7, 0x66, 0x5A, 0xCE, 0x87, 0x90, 0x42, 0xA3, 0x8B, 0xC6, 0x1C, 0x5B, 0xA0, 0x5A, 0x67,
-    0x32, 0x03, 0x08, 0x00, 0x04, 0x00, 0x00, 0x00, 0x37, 0x01, 0x07, 0x01, 0x8B, 0x01,
+const REFUSED: &[&str] = &[
+    "R",
+    "0E 02 06 00 03 17 01",
+    "6E 02 20 00 E",
+    "32 03 08 00 04 00 00 00",
+    "37 01",
+    "07 01",
+    "8B 01",
 ];
 
 /// The pull of an empty document.
-const EMPTY: [u8; 66] = [
-    0x0C, 0x00, 0x0B, 0x00, 0x9D, 0xCF, 0x29, 0xF3, 0x39, 0x94, 0x06, 0x9B, 0x16, 0x03, 0x02, 0x00,
-    0x00, 0xAC, 0x02, 0x00, 0x55, 0x0E, 0x02, 0x06, 0x00, 0x03, 0x05, 0x00, 0xFA, 0x02, 0x04, 0x00,
-    0x00, 0x00, 0x84, 0x00, 0x26, 0x02, 0x20, 0x00, 0xF6, 0x35, 0x7A, 0x32, 0x61, 0x07, 0x14, 0x44,
-    0x96, 0x86, 0x51, 0xE9, 0x00, 0x66, 0x7A, 0x4D, 0xA4, 0x00, 0x51, 0x13, 0x01, 0x41, 0x07, 0x01,
-    0x8B, 0x01,
+const EMPTY: &[&str] = &[
+    "R",
+    "0E 02 06 00 03 05 00",
+    "FA 02 04 00 00 00",
+    "84 00",
+    "26 02 20 00 K",
+    "A4 00",
+    "51",
+    "13 01",
+    "41",
+    "07 01",
+    "8B 01",
 ];
 
 /// The whole request failed with 3.
-const FAILED: [u8; 49] = [
-    0x0C, 0x00, 0x0B, 0x00, 0x9D, 0xCF, 0x29, 0xF3, 0x39, 0x94, 0x06, 0x9B, 0x16, 0x03, 0x02, 0x00,
-    0x01, 0x6E, 0x02, 0x20, 0x00, 0x56, 0xA7, 0x66, 0x5A, 0xCE, 0x87, 0x90, 0x42, 0xA3, 0x8B, 0xC6,
-    0x1C, 0x5B, 0xA0, 0x5A, 0x67, 0x32, 0x03, 0x08, 0x00, 0x03, 0x00, 0x00, 0x00, 0x37, 0x01, 0x8B,
-    0x01,
+const FAILED: &[&str] = &[
+    "F",
+    "6E 02 20 00 E",
+    "32 03 08 00 03 00 00 00",
+    "37 01",
+    "8B 01",
 ];
 
 /// There is access.
-const ACCESS: [u8; 104] = [
-    0x0C, 0x00, 0x0B, 0x00, 0x9D, 0xCF, 0x29, 0xF3, 0x39, 0x94, 0x06, 0x9B, 0x16, 0x03, 0x02, 0x00,
-    0x00, 0xAC, 0x02, 0x00, 0x55, 0x0E, 0x02, 0x06, 0x00, 0x03, 0x03, 0x00, 0x1E, 0x02, 0x00, 0x00,
-    0x6E, 0x02, 0x20, 0x00, 0xF2, 0xC8, 0x54, 0x84, 0x01, 0xE4, 0x5A, 0x40, 0xA1, 0x98, 0xA1, 0x0B,
-    0x69, 0x91, 0xB5, 0x6E, 0x92, 0x02, 0x08, 0x00, 0x00, 0x00, 0x00, 0x00, 0x37, 0x01, 0x0F, 0x01,
-    0x36, 0x02, 0x00, 0x00, 0x6E, 0x02, 0x20, 0x00, 0xF2, 0xC8, 0x54, 0x84, 0x01, 0xE4, 0x5A, 0x40,
-    0xA1, 0x98, 0xA1, 0x0B, 0x69, 0x91, 0xB5, 0x6E, 0x92, 0x02, 0x08, 0x00, 0x00, 0x00, 0x00, 0x00,
-    0x37, 0x01, 0x1B, 0x01, 0x07, 0x01, 0x8B, 0x01,
+const ACCESS: &[&str] = &[
+    "R",
+    "0E 02 06 00 03 03 00",
+    "1E 02 00 00",
+    "6E 02 20 00 H",
+    "92 02 08 00 00 00 00 00",
+    "37 01",
+    "0F 01",
+    "36 02 00 00",
+    "6E 02 20 00 H",
+    "92 02 08 00 00 00 00 00",
+    "37 01",
+    "1B 01",
+    "07 01",
+    "8B 01",
 ];
 
 /// A pull of one element: a cell manifest with the serial number 1, whose current revision is null.
-const PULLED: [u8; 151] = [
-    0x0C, 0x00, 0x0B, 0x00, 0x9D, 0xCF, 0x29, 0xF3, 0x39, 0x94, 0x06, 0x9B, 0x16, 0x03, 0x02, 0x00,
-    0x00, 0xAC, 0x02, 0x00, 0x0C, 0x56, 0x0C, 0x33, 0x22, 0x11, 0x00, 0x55, 0x44, 0x77, 0x66, 0x88,
-    0x99, 0xAA, 0xBB, 0xCC, 0xDD, 0xEE, 0xFF, 0x80, 0x33, 0x22, 0x11, 0x00, 0x55, 0x44, 0x77, 0x66,
-    0x88, 0x99, 0xAA, 0xBB, 0xCC, 0xDD, 0xEE, 0xFF, 0x01, 0x00, 0x00, 0x00, 0x00, 0x00, 0x00, 0x00,
-    0x07, 0x58, 0x02, 0x00, 0x05, 0x55, 0x0E, 0x02, 0x06, 0x00, 0x03, 0x05, 0x00, 0xFA, 0x02, 0x24,
-    0x00, 0x14, 0x33, 0x22, 0x11, 0x00, 0x55, 0x44, 0x77, 0x66, 0x88, 0x99, 0xAA, 0xBB, 0xCC, 0xDD,
-    0xEE, 0xFF, 0x00, 0x84, 0x00, 0x26, 0x02, 0x20, 0x00, 0xF6, 0x35, 0x7A, 0x32, 0x61, 0x07, 0x14,
-    0x44, 0x96, 0x86, 0x51, 0xE9, 0x00, 0x66, 0x7A, 0x4D, 0xA4, 0x00, 0x78, 0x24, 0x33, 0x22, 0x11,
-    0x00, 0x55, 0x44, 0x77, 0x66, 0x88, 0x99, 0xAA, 0xBB, 0xCC, 0xDD, 0xEE, 0xFF, 0x03, 0x03, 0x51,
-    0x13, 0x01, 0x41, 0x07, 0x01, 0x8B, 0x01,
+const PULLED: &[&str] = &[
+    "0C 00 0B 00 9D CF 29 F3 39 94 06 9B",
+    "16 03 02 00 00",
+    "AC 02 00",
+    "0C 56 0C G 80 G 01 00 00 00 00 00 00 00 07",
+    "58 02 00",
+    "05",
+    "55",
+    "0E 02 06 00 03 05 00",
+    "FA 02 24 00 14 G 00",
+    "84 00",
+    "26 02 20 00 K",
+    "A4 00",
+    "78 24 G 03 03",
+    "51",
+    "13 01",
+    "41",
+    "07 01",
+    "8B 01",
 ];
 
 /// What is written of one answer to a sub-request of id 1.
@@ -86,6 +108,19 @@ fn written(alloc: Global, kind: u64, reply: Reply) -> Result<Octets, NoMemory>
         submitted: Submitted::Answered { reply },
     })?;
     write_cell_response(alloc, &answers)
+}
+
+fn is_written(alloc: Global, kind: u64, reply: Reply, form: &[&str]) -> Result<bool, NoMemory>
+    requires { HasForm (Submitted.Answered reply) }
+{
+    let bytes = written(alloc, kind, reply)?;
+    let wanted = bytes_of(alloc, form)?;
+    Ok(bytes.as_slice() == wanted.as_slice())
+}
+
+fn is_read(alloc: Global, form: &[&str], expected: CellResponse) -> Result<bool, NoMemory> {
+    let bytes = bytes_of(alloc, form)?;
+    Ok(read_cell_response(alloc, bytes.as_slice()) == Ok(expected))
 }
 
 /// An answer to a sub-request of id 1 without any part.
@@ -119,10 +154,7 @@ fn element() -> NumberedElement {
     NumberedElement {
         serial: 1,
         element: Element {
-            id: ExGuid::Id {
-                guid: DOCUMENT,
-                value: 1,
-            },
+            id: id(1),
             body: Body::Cell {
                 current: ExGuid::Null,
             },
@@ -134,39 +166,32 @@ fn element() -> NumberedElement {
 fn knowledge(alloc: Global) -> Result<Knowledge, NoMemory> {
     let mut ranges = Seq::new(alloc);
     ranges.push(Range {
-        guid: DOCUMENT,
+        guid: guid(),
         from: 1,
         to: 1,
     })?;
     Ok(Knowledge { ranges })
 }
 
-/// The stored index of the pull.
-const INDEX: ExGuid = ExGuid::Id {
-    guid: DOCUMENT,
-    value: 2,
-};
-
 #[test]
 fn a_draw_is_written(rt: HostRuntime) -> Result<(), Fail> {
     let reply = Reply::Drawn {
-        guid: DOCUMENT,
+        guid: guid(),
         least: 1,
         greatest: 1000,
     };
-    let bytes = written(rt.alloc(), 11, reply).ok().ok_or("memory")?;
-    assert_eq!(rt; bytes.as_slice(), &DRAWN[..]);
+    assert!(rt; is_written(rt.alloc(), 11, reply, DRAWN)?);
     Ok(())
 }
 
 #[test]
 fn a_draw_is_read(rt: HostRuntime) -> Result<(), Fail> {
     let mut seen = blank(rt.alloc(), 11);
-    seen.guid = DOCUMENT;
+    seen.guid = guid();
     seen.least = 1;
     seen.greatest = 1000;
-    let expected = response(rt.alloc(), seen).ok().ok_or("memory")?;
-    assert_eq!(rt; read_cell_response(rt.alloc(), &DRAWN), Ok(expected));
+    let expected = response(rt.alloc(), seen)?;
+    assert!(rt; is_read(rt.alloc(), DRAWN, expected)?);
     Ok(())
 }
 
@@ -175,8 +200,7 @@ fn a_refusal_is_written(rt: HostRuntime) -> Result<(), Fail> {
     let reply = Reply::Refused {
         code: Code::NotSupported,
     };
-    let bytes = written(rt.alloc(), 11, reply).ok().ok_or("memory")?;
-    assert_eq!(rt; bytes.as_slice(), &REFUSED[..]);
+    assert!(rt; is_written(rt.alloc(), 11, reply, REFUSED)?);
     Ok(())
 }
 
@@ -184,87 +208,82 @@ fn a_refusal_is_written(rt: HostRuntime) -> Result<(), Fail> {
 fn a_refusal_is_read(rt: HostRuntime) -> Result<(), Fail> {
     let mut seen = blank(rt.alloc(), 11);
     seen.fault = Some(4);
-    let expected = response(rt.alloc(), seen).ok().ok_or("memory")?;
-    assert_eq!(rt; read_cell_response(rt.alloc(), &REFUSED), Ok(expected));
+    let expected = response(rt.alloc(), seen)?;
+    assert!(rt; is_read(rt.alloc(), REFUSED, expected)?);
     Ok(())
 }
 
 #[test]
 fn access_is_written(rt: HostRuntime) -> Result<(), Fail> {
-    let bytes = written(rt.alloc(), 1, Reply::Access).ok().ok_or("memory")?;
-    assert_eq!(rt; bytes.as_slice(), &ACCESS[..]);
+    assert!(rt; is_written(rt.alloc(), 1, Reply::Access, ACCESS)?);
     Ok(())
 }
 
 #[test]
 fn access_is_read(rt: HostRuntime) -> Result<(), Fail> {
-    let expected = response(rt.alloc(), blank(rt.alloc(), 1))
-        .ok()
-        .ok_or("memory")?;
-    assert_eq!(rt; read_cell_response(rt.alloc(), &ACCESS), Ok(expected));
+    let expected = response(rt.alloc(), blank(rt.alloc(), 1))?;
+    assert!(rt; is_read(rt.alloc(), ACCESS, expected)?);
     Ok(())
 }
 
 #[test]
 fn the_pull_of_an_empty_document_is_written(rt: HostRuntime) -> Result<(), Fail> {
     let reply = Reply::Pulled {
-        guid: DOCUMENT,
+        guid: guid(),
         index: ExGuid::Null,
         elements: Seq::new(rt.alloc()),
         knowledge: Knowledge {
             ranges: Seq::new(rt.alloc()),
         },
     };
-    let bytes = written(rt.alloc(), 2, reply).ok().ok_or("memory")?;
-    assert_eq!(rt; bytes.as_slice(), &EMPTY[..]);
+    assert!(rt; is_written(rt.alloc(), 2, reply, EMPTY)?);
     Ok(())
 }
 
 #[test]
 fn the_pull_of_an_empty_document_is_read(rt: HostRuntime) -> Result<(), Fail> {
-    let expected = response(rt.alloc(), blank(rt.alloc(), 2))
-        .ok()
-        .ok_or("memory")?;
-    assert_eq!(rt; read_cell_response(rt.alloc(), &EMPTY), Ok(expected));
+    let expected = response(rt.alloc(), blank(rt.alloc(), 2))?;
+    assert!(rt; is_read(rt.alloc(), EMPTY, expected)?);
     Ok(())
 }
 
 #[test]
 fn a_pull_is_written(rt: HostRuntime) -> Result<(), Fail> {
     let mut elements = Seq::new(rt.alloc());
-    elements.push(element()).ok().ok_or("memory")?;
+    elements.push(element())?;
     let reply = Reply::Pulled {
-        guid: DOCUMENT,
-        index: INDEX,
+        guid: guid(),
+        index: id(2),
         elements,
-        knowledge: knowledge(rt.alloc()).ok().ok_or("memory")?,
+        knowledge: knowledge(rt.alloc())?,
     };
-    let bytes = written(rt.alloc(), 2, reply).ok().ok_or("memory")?;
-    assert_eq!(rt; bytes.as_slice(), &PULLED[..]);
+    assert!(rt; is_written(rt.alloc(), 2, reply, PULLED)?);
     Ok(())
 }
 
 #[test]
 fn a_pull_is_read(rt: HostRuntime) -> Result<(), Fail> {
     let mut seen = blank(rt.alloc(), 2);
-    seen.index = INDEX;
-    seen.knowledge = knowledge(rt.alloc()).ok().ok_or("memory")?;
-    let mut expected = response(rt.alloc(), seen).ok().ok_or("memory")?;
-    expected.elements.push(element()).ok().ok_or("memory")?;
-    assert_eq!(rt; read_cell_response(rt.alloc(), &PULLED), Ok(expected));
+    seen.index = id(2);
+    seen.knowledge = knowledge(rt.alloc())?;
+    let mut expected = response(rt.alloc(), seen)?;
+    expected.elements.push(element())?;
+    assert!(rt; is_read(rt.alloc(), PULLED, expected)?);
     Ok(())
 }
 
 #[test]
 fn a_failure_of_the_request_is_written(rt: HostRuntime) -> Result<(), Fail> {
-    let bytes = write_cell_failure(rt.alloc(), 3).ok().ok_or("memory")?;
-    assert_eq!(rt; bytes.as_slice(), &FAILED[..]);
+    let bytes = write_cell_failure(rt.alloc(), 3)?;
+    let failed = bytes_of(rt.alloc(), FAILED)?;
+    assert_eq!(rt; bytes.as_slice(), failed.as_slice());
     Ok(())
 }
 
 #[test]
 fn a_failure_of_the_request_is_no_response(rt: HostRuntime) -> Result<(), Fail> {
     let fault = Err(WireFault::SchemaFault { place: 16 });
-    assert_eq!(rt; read_cell_response(rt.alloc(), &FAILED), fault);
+    let failed = bytes_of(rt.alloc(), FAILED)?;
+    assert_eq!(rt; read_cell_response(rt.alloc(), failed.as_slice()), fault);
     Ok(())
 }

@@ -1,8 +1,9 @@
 // What elements say, for tests.
-use crate::test_forms::{bytes_of, guid, id, list_of};
+use crate::test_lists::list_of;
 use compact_values::{CellId, CellIds, ExGuid, Ids, NoMemory, Seq, Serial};
 use doc_model::{Body, CellMap, Content, ManifestMap, Object, RevisionMap, RevisionRoot, Root};
 use std::alloc::Global;
+use test_forms::{bytes_of, guid, id};
 
 pub const NO_CELL: CellId = CellId {
     first: ExGuid::Null,

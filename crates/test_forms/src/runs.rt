@@ -1,0 +1,73 @@
+use compact_values::{ExGuid, Guid, guid_of};
+
+/// `G`: the GUID 00112233-4455-6677-8899-AABBCCDDEEFF, that of most documents.
+pub(crate) const DOCUMENT: [u8; 16] = [
+    0x33, 0x22, 0x11, 0x00, 0x55, 0x44, 0x77, 0x66, 0x88, 0x99, 0xAA, 0xBB, 0xCC, 0xDD, 0xEE, 0xFF,
+];
+
+/// `K`: the GUID of cell knowledge (MS-FSSHTTPB 2.2.1.13.2).
+pub(crate) const KNOWLEDGE: [u8; 16] = [
+    0xF6, 0x35, 0x7A, 0x32, 0x61, 0x07, 0x14, 0x44, 0x96, 0x86, 0x51, 0xE9, 0x00, 0x66, 0x7A, 0x4D,
+];
+
+/// `E`: the GUID of cell errors (MS-FSSHTTPB 2.2.3.2.1).
+pub(crate) const CELL_ERROR: [u8; 16] = [
+    0x56, 0xA7, 0x66, 0x5A, 0xCE, 0x87, 0x90, 0x42, 0xA3, 0x8B, 0xC6, 0x1C, 0x5B, 0xA0, 0x5A, 0x67,
+];
+
+/// `H`: the GUID of HRESULT errors (MS-FSSHTTPB 2.2.3.2.4).
+pub(crate) const HRESULT: [u8; 16] = [
+    0xF2, 0xC8, 0x54, 0x84, 0x01, 0xE4, 0x5A, 0x40, 0xA1, 0x98, 0xA1, 0x0B, 0x69, 0x91, 0xB5, 0x6E,
+];
+
+/// `Q`: the front of a request, up to its first sub-request.
+pub(crate) const REQUEST: [u8; 16] = [
+    0x0C, 0x00, 0x0B, 0x00, 0x9C, 0xCF, 0x29, 0xF3, 0x39, 0x94, 0x06, 0x9B, 0x06, 0x02, 0x00, 0x00,
+];
+
+/// `P`: a package without elements, and the end of a request.
+pub(crate) const REQUEST_END: [u8; 6] = [0xAC, 0x02, 0x00, 0x55, 0x03, 0x01];
+
+/// `R`: the front of a response without elements, up to its first sub-response.
+pub(crate) const RESPONSE: [u8; 21] = [
+    0x0C, 0x00, 0x0B, 0x00, 0x9D, 0xCF, 0x29, 0xF3, 0x39, 0x94, 0x06, 0x9B, 0x16, 0x03, 0x02, 0x00,
+    0x00, 0xAC, 0x02, 0x00, 0x55,
+];
+
+/// `F`: the front of the response to a request that isn't run.
+pub(crate) const FAILURE: [u8; 17] = [
+    0x0C, 0x00, 0x0B, 0x00, 0x9D, 0xCF, 0x29, 0xF3, 0x39, 0x94, 0x06, 0x9B, 0x16, 0x03, 0x02, 0x00,
+    0x01,
+];
+
+/// `S`: the GUID of a schema lock id.
+pub(crate) const SCHEMA: [u8; 16] = [0, 0, 0, 0, 0, 0, 0, 0, 0, 0, 0, 0, 0, 0, 0, 1];
+
+/// `C`: the GUID of a client.
+pub(crate) const CLIENT: [u8; 16] = [0, 0, 0, 0, 0, 0, 0, 0, 0, 0, 0, 0, 0, 0, 0, 2];
+
+/// `U`: the moment 7 and the user `anonymous`, as the body of a change has them.
+pub(crate) const USER: [u8; 11] = *b"\x0F\x13anonymous";
+
+/// The GUID whose bytes are `G`.
+pub fn guid() -> Guid {
+    guid_of(&DOCUMENT)
+}
+
+/// The extended GUID of this value.
+pub fn id(value: u32) -> ExGuid {
+    ExGuid::Id {
+        guid: guid(),
+        value,
+    }
+}
+
+/// The GUID whose bytes are `S`.
+pub fn schema() -> Guid {
+    guid_of(&SCHEMA)
+}
+
+/// The GUID whose bytes are `C`.
+pub fn client() -> Guid {
+    guid_of(&CLIENT)
+}
