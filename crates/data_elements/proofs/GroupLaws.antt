@@ -26,15 +26,15 @@ use Rattle.doc_model.specs.declared.element.Content.{Content}
 use Rattle.doc_model.specs.declared.element.Content.TheVariants.{Inline, Apart}
 use Rattle.doc_model.specs.declared.element.Body.{Body}
 use Rattle.doc_model.specs.declared.element.Body.TheVariants.{Group}
-use Rattle.data_elements.specs.declared.group.Link.{Link}
-use Rattle.data_elements.specs.declared.group.Link.TheVariants as links
+use Rattle.data_elements.specs.declared.group.Carrier.{Carrier}
+use Rattle.data_elements.specs.declared.group.Carrier.TheVariants as carriers
 use Rattle.data_elements.specs.declared.group.Declaration.{Declaration}
 use Rattle.data_elements.specs.Rows.{declaration_row, declared_row, data_row, reference_row, child_ok, member_ok}
 use Rattle.data_elements.specs.Checking.{check_members, child_fault, check_at, or_broken, collect_from}
-use Rattle.data_elements.specs.GroupReading.{link_of, blob_of, named_blob, link_at, same_id, link_agrees, links_agree, declaration_of, blob_declaration_of, declaration_at, inline_object, apart_object, object_at, objects_from, objects_at, halves_agree, group_of, halves_at, group_at}
+use Rattle.data_elements.specs.GroupReading.{carrier_of, blob_of, named_blob, carrier_at, same_id, carrier_agrees, carriers_agree, declaration_of, blob_declaration_of, declaration_at, inline_object, apart_object, object_at, objects_from, objects_at, halves_agree, group_of, halves_at, group_at}
 use Rattle.data_elements.proofs.RowLaws.{no_fields_again, ok_declarations, ok_data_of}
 use Rattle.data_elements.proofs.MemberLaws.{declaration_again, declared_found, declared_again, data_again, reference_found, reference_again, ok_blob_declaration, ok_object_data, ok_declaration, ok_blob_reference}
-use Rattle.data_elements.proofs.Links.{second_half}
+use Rattle.data_elements.proofs.Carriers.{second_half}
 use Rattle.data_elements.proofs.CheckLaws.{filter_all, Own, Holds, holds, JudgesBody, by_children, not_itself, AllOk, each_ok, either_ok, check_none}
 
 -- ---- ids
@@ -92,47 +92,47 @@ data_are : (t : Tree) → AllByRecursion IsData (data_in t)
 data_are t = filter_all (λ c. is_kind 0x16 c || is_kind 0x1C c) IsData (out-Tree t).children (all_either 0x16 0x1C (out-Tree t).children)
 
 module _ (input : List ℕ) (fits : IsBytes input) where
-  -- ---- links
+  -- ---- carriers
 
-  inline_18 : (d : Tree) → kind_of d ≡ 0x18 → link_at input d ≡ links.Inline
-  unfolding link_at
+  inline_18 : (d : Tree) → kind_of d ≡ 0x18 → carrier_at input d ≡ carriers.Inline
+  unfolding carrier_at
   inline_18 d e = rw e refl
 
-  inline_16 : (d : Tree) → kind_of d ≡ 0x16 → link_at input d ≡ links.Inline
-  unfolding link_at
+  inline_16 : (d : Tree) → kind_of d ≡ 0x16 → carrier_at input d ≡ carriers.Inline
+  unfolding carrier_at
   inline_16 d e = rw e refl
 
-  link_05 : (d : Tree) → kind_of d ≡ 0x05 → link_at input d ≡ link_of (option_map blob_of (declared_row input d))
-  unfolding link_at
+  link_05 : (d : Tree) → kind_of d ≡ 0x05 → carrier_at input d ≡ carrier_of (option_map blob_of (declared_row input d))
+  unfolding carrier_at
   link_05 d e = rw e refl
 
-  link_1C : (d : Tree) → kind_of d ≡ 0x1C → link_at input d ≡ link_of (option_map named_blob (reference_row input d))
-  unfolding link_at
+  link_1C : (d : Tree) → kind_of d ≡ 0x1C → carrier_at input d ≡ carrier_of (option_map named_blob (reference_row input d))
+  unfolding carrier_at
   link_1C d e = rw e refl
 
   -- what is apart is never inline
-  not_inline : (o : Option ExGuid) → link_agrees links.Inline (link_of o) ≡ false
+  not_inline : (o : Option ExGuid) → carrier_agrees carriers.Inline (carrier_of o) ≡ false
   not_inline (Some b) = refl
   not_inline None = refl
 
-  never_inline : (o : Option ExGuid) → link_agrees (link_of o) links.Inline ≡ false
+  never_inline : (o : Option ExGuid) → carrier_agrees (carrier_of o) carriers.Inline ≡ false
   never_inline (Some b) = refl
   never_inline None = refl
 
   -- two blobs agree where they are the same, as far as they are read
-  blobs_when : (o p : Option ExGuid) → link_agrees (link_of o) (link_of p) ≡ true → (b c : ExGuid) → o ≡ Some b → p ≡ Some c → b ≡ c
+  blobs_when : (o p : Option ExGuid) → carrier_agrees (carrier_of o) (carrier_of p) ≡ true → (b c : ExGuid) → o ≡ Some b → p ≡ Some c → b ≡ c
   blobs_when (Some x) (Some y) e b c f g = let same = same_when x y e in cc
   blobs_when None p e b c f g = absurd cc
   blobs_when (Some x) None e b c f g = absurd cc
 
-  blobs_agree : (o p : Option ExGuid) → ((b c : ExGuid) → o ≡ Some b → p ≡ Some c → b ≡ c) → link_agrees (link_of o) (link_of p) ≡ true
+  blobs_agree : (o p : Option ExGuid) → ((b c : ExGuid) → o ≡ Some b → p ≡ Some c → b ≡ c) → carrier_agrees (carrier_of o) (carrier_of p) ≡ true
   blobs_agree (Some x) (Some y) h = same_ids x y (h x y refl refl)
   blobs_agree None (Some y) h = refl
   blobs_agree (Some x) None h = refl
   blobs_agree None None h = refl
 
-  abbrev Linked : Tree → Tree → Type 0
-  Linked d e = link_agrees (link_at input d) (link_at input e) ≡ true
+  abbrev SameCarrier : Tree → Tree → Type 0
+  SameCarrier d e = carrier_agrees (carrier_at input d) (carrier_at input e) ≡ true
 
   blob_is : (d : Tree) (id blob : ExGuid) (partition size : ℕ) → BlobDeclaration input d id blob partition size → option_map blob_of (declared_row input d) ≡ Some blob
   blob_is d id blob partition size h = ap (option_map blob_of) (declared_again input fits d id blob partition size h)
@@ -140,20 +140,20 @@ module _ (input : List ℕ) (fits : IsBytes input) where
   named_is : (e : Tree) (references : List ExGuid) (cells : List CellId) (named : ExGuid) → BlobReference input e references cells named → option_map named_blob (reference_row input e) ≡ Some named
   named_is e references cells named h = ap (option_map named_blob) (reference_again input fits e references cells named h)
 
-  linked : (d e : Tree) → IsDeclaration d → IsData e → Linked d e → Agrees input d e
-  linked d e (inl k) (inl m) l = record { with_data = λ y. m; with_blob = λ y. absurd (omega (arith, k, y)); same_blob = λ y. absurd (omega (arith, k, y)) }
-  linked d e (inl k) (inr m) l =
-      let no : Linked d e → false ≡ true = λ x. sym (ap (λ (n : Link). link_agrees links.Inline n) (link_1C e m) ∙ not_inline (option_map named_blob (reference_row input e))) ∙ sym (ap (λ (n : Link). link_agrees n (link_at input e)) (inline_18 d k)) ∙ x in
+  same_carrier : (d e : Tree) → IsDeclaration d → IsData e → SameCarrier d e → Agrees input d e
+  same_carrier d e (inl k) (inl m) l = record { with_data = λ y. m; with_blob = λ y. absurd (omega (arith, k, y)); same_blob = λ y. absurd (omega (arith, k, y)) }
+  same_carrier d e (inl k) (inr m) l =
+      let no : SameCarrier d e → false ≡ true = λ x. sym (ap (λ (n : Carrier). carrier_agrees carriers.Inline n) (link_1C e m) ∙ not_inline (option_map named_blob (reference_row input e))) ∙ sym (ap (λ (n : Carrier). carrier_agrees n (carrier_at input e)) (inline_18 d k)) ∙ x in
       let bad = no l in absurd cc
-  linked d e (inr k) (inl m) l =
-      let no : Linked d e → false ≡ true = λ x. sym (ap (λ (n : Link). link_agrees n links.Inline) (link_05 d k) ∙ never_inline (option_map blob_of (declared_row input d))) ∙ sym (ap (λ (n : Link). link_agrees (link_at input d) n) (inline_16 e m)) ∙ x in
+  same_carrier d e (inr k) (inl m) l =
+      let no : SameCarrier d e → false ≡ true = λ x. sym (ap (λ (n : Carrier). carrier_agrees n carriers.Inline) (link_05 d k) ∙ never_inline (option_map blob_of (declared_row input d))) ∙ sym (ap (λ (n : Carrier). carrier_agrees (carrier_at input d) n) (inline_16 e m)) ∙ x in
       let bad = no l in absurd cc
-  linked d e (inr k) (inr m) l = record {
+  same_carrier d e (inr k) (inr m) l = record {
     with_data = λ y. absurd (omega (arith, k, y));
     with_blob = λ y. m;
     same_blob = λ y id blob partition size h references cells named g.
         blobs_when (option_map blob_of (declared_row input d)) (option_map named_blob (reference_row input e))
-        (sym (ap (λ (n : Link). link_agrees n (link_of (option_map named_blob (reference_row input e)))) (link_05 d k)) ∙ sym (ap (λ (n : Link). link_agrees (link_at input d) n) (link_1C e m)) ∙ l)
+        (sym (ap (λ (n : Carrier). carrier_agrees n (carrier_of (option_map named_blob (reference_row input e)))) (link_05 d k)) ∙ sym (ap (λ (n : Carrier). carrier_agrees (carrier_at input d) n) (link_1C e m)) ∙ l)
         blob named (blob_is d id blob partition size h) (named_is e references cells named g);
   }
 
@@ -161,31 +161,31 @@ module _ (input : List ℕ) (fits : IsBytes input) where
   option_value f (Some a) b e = (a, refl, cc)
   option_value f None b e = absurd cc
 
-  agreed : (d e : Tree) → IsDeclaration d → IsData e → Agrees input d e → Linked d e
-  agreed d e (inl k) m h = ap (λ (n : Link). link_agrees n (link_at input e)) (inline_18 d k) ∙ ap (λ (n : Link). link_agrees links.Inline n) (inline_16 e (h.with_data k))
+  agreed : (d e : Tree) → IsDeclaration d → IsData e → Agrees input d e → SameCarrier d e
+  agreed d e (inl k) m h = ap (λ (n : Carrier). carrier_agrees n (carrier_at input e)) (inline_18 d k) ∙ ap (λ (n : Carrier). carrier_agrees carriers.Inline n) (inline_16 e (h.with_data k))
   agreed d e (inr k) m h =
       let g = h.with_blob k in
-      ap (λ (n : Link). link_agrees n (link_at input e)) (link_05 d k) ∙ ap (λ (n : Link). link_agrees (link_of (option_map blob_of (declared_row input d))) n) (link_1C e g)
+      ap (λ (n : Carrier). carrier_agrees n (carrier_at input e)) (link_05 d k) ∙ ap (λ (n : Carrier). carrier_agrees (carrier_of (option_map blob_of (declared_row input d))) n) (link_1C e g)
       ∙ blobs_agree (option_map blob_of (declared_row input d)) (option_map named_blob (reference_row input e)) (λ b c f i.
       let x = option_value blob_of (declared_row input d) b f in
       let y = option_value named_blob (reference_row input e) c i in
       let same = h.same_blob k x.0.0 x.0.1.0 x.0.1.1.0 x.0.1.1.1 (declared_found input fits d x.0 x.1) y.0.0 y.0.1.0 y.0.1.1 (reference_found input fits e y.0 y.1) in
       sym x.2 ∙ same ∙ y.2)
 
-  abbrev AllLinked : List Tree → List Tree → Bool
-  AllLinked ds es = links_agree (map (link_at input) ds) (map (link_at input) es)
+  abbrev SameCarriers : List Tree → List Tree → Bool
+  SameCarriers ds es = carriers_agree (map (carrier_at input) ds) (map (carrier_at input) es)
 
-  all_linked : (ds es : List Tree) → AllByRecursion IsDeclaration ds → AllByRecursion IsData es → AllLinked ds es ≡ true → EachAgrees input ds es
-  all_linked [] [] p q l = tt
-  all_linked [] (e ∷ es) p q l = absurd cc
-  all_linked (d ∷ ds) [] p q l = absurd cc
-  all_linked (d ∷ ds) (e ∷ es) p q l =
-      elim (cases_Bool (link_agrees (link_at input d) (link_at input e))) [
-        | inl y ↦ (linked d e p.0 q.0 y, all_linked ds es p.1 q.1 (rw y at l))
+  same_carriers : (ds es : List Tree) → AllByRecursion IsDeclaration ds → AllByRecursion IsData es → SameCarriers ds es ≡ true → EachAgrees input ds es
+  same_carriers [] [] p q l = tt
+  same_carriers [] (e ∷ es) p q l = absurd cc
+  same_carriers (d ∷ ds) [] p q l = absurd cc
+  same_carriers (d ∷ ds) (e ∷ es) p q l =
+      elim (cases_Bool (carrier_agrees (carrier_at input d) (carrier_at input e))) [
+        | inl y ↦ (same_carrier d e p.0 q.0 y, same_carriers ds es p.1 q.1 (rw y at l))
         | inr n ↦ let bad = rw n at l in absurd cc
       ]
 
-  all_agreed : (ds es : List Tree) → AllByRecursion IsDeclaration ds → AllByRecursion IsData es → EachAgrees input ds es → AllLinked ds es ≡ true
+  all_agreed : (ds es : List Tree) → AllByRecursion IsDeclaration ds → AllByRecursion IsData es → EachAgrees input ds es → SameCarriers ds es ≡ true
   all_agreed [] [] p q h = refl
   all_agreed [] (e ∷ es) p q h = absurd h
   all_agreed (d ∷ ds) [] p q h = absurd h
@@ -328,7 +328,7 @@ module _ (input : List ℕ) (fits : IsBytes input) where
       data_of = h;
       one_declarations = one;
       one_data = two;
-      agree = all_linked (declarations_in d) (data_in h) (declarations_are d) (data_are h) l;
+      agree = same_carriers (declarations_in d) (data_in h) (declarations_are d) (data_are h) l;
     };
     blob = λ e. absurd (omega arith);
   }
@@ -356,7 +356,7 @@ module _ (input : List ℕ) (fits : IsBytes input) where
         let l = kind_one 0x1E t h two in
         let m = subst (λ (ts : List Tree). AllByRecursion (MemberInForm input) ts) (first_half d k) p.1 in
         let n = subst (λ (ts : List Tree). AllByRecursion (MemberInForm input) ts) (second_half h l) q.1 in
-        let r = pairs_read (declarations_in d) (data_in h) (declarations_are d) (all_linked (declarations_in d) (data_in h) (declarations_are d) (data_are h) y) m n in (
+        let r = pairs_read (declarations_in d) (data_in h) (declarations_are d) (same_carriers (declarations_in d) (data_in h) (declarations_are d) (data_are h) y) m n in (
           Group r.objects,
           ap group_of (objects_read d h r.objects r.reads),
           (

@@ -8,7 +8,7 @@ pub mod PackageStands
 pub mod RowLaws
 pub mod MemberLaws
 pub mod CheckLaws
-pub mod Links
+pub mod Carriers
 pub mod GroupLaws
 pub mod ElementLaws
 pub mod NumberedLaws

@@ -14,17 +14,17 @@ use Rattle.doc_model.specs.declared.element.Object.{Object}
 use Rattle.doc_model.specs.declared.element.Content.TheVariants.{Inline, Apart}
 use Rattle.doc_model.specs.declared.element.Body.{Body}
 use Rattle.doc_model.specs.declared.element.Body.TheVariants.{Group}
-use Rattle.data_elements.specs.declared.group.Link.{Link}
-use Rattle.data_elements.specs.declared.group.Link.TheVariants as links
+use Rattle.data_elements.specs.declared.group.Carrier.{Carrier}
+use Rattle.data_elements.specs.declared.group.Carrier.TheVariants as carriers
 use Rattle.data_elements.specs.declared.group.Declaration.{Declaration}
 use Rattle.data_elements.specs.Rows.{declaration_row, declared_row, data_row, reference_row, Declared}
 use Rattle.data_elements.specs.Checking.{check_at, unless_broken, or_broken, collect_from}
 
 -- ---- where the content of an object is
 
-abbrev pub link_of : Option ExGuid → Link
-link_of (Some blob) = links.Apart blob
-link_of None = links.Unread
+abbrev pub carrier_of : Option ExGuid → Carrier
+carrier_of (Some blob) = carriers.Apart blob
+carrier_of None = carriers.Unread
 
 abbrev pub blob_of : Declared → ExGuid
 blob_of d = d.1.0
@@ -33,11 +33,11 @@ abbrev pub named_blob : List ExGuid × (List CellId × ExGuid) → ExGuid
 named_blob r = r.1.1
 
 -- the blob that a declaration or data name
-unfoldable pub link_at : List ℕ → Tree → Link
-link_at input t =
-    if is_kind OBJECT_GROUP_OBJECT_BLOB_DATA_DECLARATION t then link_of (option_map blob_of (declared_row input t))
-    else if is_kind OBJECT_GROUP_OBJECT_DATA_BLOB_REFERENCE t then link_of (option_map named_blob (reference_row input t))
-    else links.Inline
+unfoldable pub carrier_at : List ℕ → Tree → Carrier
+carrier_at input t =
+    if is_kind OBJECT_GROUP_OBJECT_BLOB_DATA_DECLARATION t then carrier_of (option_map blob_of (declared_row input t))
+    else if is_kind OBJECT_GROUP_OBJECT_DATA_BLOB_REFERENCE t then carrier_of (option_map named_blob (reference_row input t))
+    else carriers.Inline
 
 abbrev pub same_id : ExGuid → ExGuid → Bool
 same_id Null Null = true
@@ -46,22 +46,22 @@ same_id Null (Id other number) = false
 same_id (Id guid value) Null = false
 
 -- whether a declaration and data belong together, as far as they are in form
-abbrev pub link_agrees : Link → Link → Bool
-link_agrees links.Inline links.Inline = true
-link_agrees (links.Apart blob) (links.Apart named) = same_id blob named
-link_agrees (links.Apart blob) links.Unread = true
-link_agrees links.Unread (links.Apart named) = true
-link_agrees links.Unread links.Unread = true
-link_agrees links.Inline (links.Apart named) = false
-link_agrees links.Inline links.Unread = false
-link_agrees (links.Apart blob) links.Inline = false
-link_agrees links.Unread links.Inline = false
+abbrev pub carrier_agrees : Carrier → Carrier → Bool
+carrier_agrees carriers.Inline carriers.Inline = true
+carrier_agrees (carriers.Apart blob) (carriers.Apart named) = same_id blob named
+carrier_agrees (carriers.Apart blob) carriers.Unread = true
+carrier_agrees carriers.Unread (carriers.Apart named) = true
+carrier_agrees carriers.Unread carriers.Unread = true
+carrier_agrees carriers.Inline (carriers.Apart named) = false
+carrier_agrees carriers.Inline carriers.Unread = false
+carrier_agrees (carriers.Apart blob) carriers.Inline = false
+carrier_agrees carriers.Unread carriers.Inline = false
 
-abbrev pub links_agree : List Link → List Link → Bool
-links_agree [] [] = true
-links_agree (d ∷ ds) (e ∷ es) = if link_agrees d e then links_agree ds es else false
-links_agree [] (e ∷ es) = false
-links_agree (d ∷ ds) [] = false
+abbrev pub carriers_agree : List Carrier → List Carrier → Bool
+carriers_agree [] [] = true
+carriers_agree (d ∷ ds) (e ∷ es) = if carrier_agrees d e then carriers_agree ds es else false
+carriers_agree [] (e ∷ es) = false
+carriers_agree (d ∷ ds) [] = false
 
 -- ---- the objects
 
@@ -101,7 +101,7 @@ objects_at input declarations data_of =
     and_then (collect_from declaration_at input [] (declarations_in declarations)) (λ ds. objects_from input [] ds (data_in data_of))
 
 abbrev pub halves_agree : List ℕ → Tree → Tree → Bool
-halves_agree input declarations data_of = links_agree (map (link_at input) (declarations_in declarations)) (map (link_at input) (data_in data_of))
+halves_agree input declarations data_of = carriers_agree (map (carrier_at input) (declarations_in declarations)) (map (carrier_at input) (data_in data_of))
 
 abbrev pub group_of : Result (List Object) ℕ → Result Body ℕ
 group_of (Ok objects) = Ok (Group objects)

@@ -5,7 +5,7 @@ ghost use Rattle.doc_model.specs.wire.Groups.{declarations_in, data_in};
 ghost use Rattle.data_elements.specs.Answers.{Gives};
 ghost use Rattle.data_elements.specs.Checking.{collect_from, or_broken};
 ghost use Rattle.data_elements.specs.Rows.{data_row, reference_row};
-ghost use Rattle.data_elements.specs.GroupReading.{link_at, same_id, link_agrees, links_agree, declaration_at, inline_object, apart_object, object_at, objects_from, objects_at, halves_agree, group_at};
+ghost use Rattle.data_elements.specs.GroupReading.{carrier_at, same_id, carrier_agrees, carriers_agree, declaration_at, inline_object, apart_object, object_at, objects_from, objects_at, halves_agree, group_at};
 ghost use Rattle.stream_objects.specs.declared.object_types.TheConstants.{OBJECT_GROUP_OBJECT_BLOB_DATA_DECLARATION, OBJECT_GROUP_OBJECT_DATA, OBJECT_GROUP_OBJECT_DATA_BLOB_REFERENCE, OBJECT_GROUP_OBJECT_DECLARE};
 
 use crate::check::check;
@@ -17,13 +17,13 @@ use doc_model::{Body, Content, Object, Objects};
 use std::alloc::Global;
 use stream_objects::{Tree, object_types, only_child};
 
-type Links = Seq<Link>;
+type Carriers = Seq<Carrier>;
 
 type Declarations = Seq<Declaration>;
 
 /// Where a declaration or data say that an object's content is.
 #[derive(Clone, Copy, Debug, PartialEq, Eq)]
-pub enum Link {
+pub enum Carrier {
     /// With the object.
     Inline,
     /// In this blob.
@@ -41,42 +41,42 @@ pub struct Declaration {
 }
 
 /// The blob that a declaration or data name.
-#[tactic(auto, unfolding(crate::specs::GroupReading::link_at))]
-fn link_at(alloc: Global, bytes: &[u8], tree: &Tree) -> Result<Link, NoMemory>
-    ensures { IfOk result (λ link. link ≡ link_at bytes.now tree.now) }
+#[tactic(auto, unfolding(crate::specs::GroupReading::carrier_at))]
+fn carrier_at(alloc: Global, bytes: &[u8], tree: &Tree) -> Result<Carrier, NoMemory>
+    ensures { IfOk result (λ carrier. carrier ≡ carrier_at bytes.now tree.now) }
 {
     match tree.kind {
         object_types::OBJECT_GROUP_OBJECT_BLOB_DATA_DECLARATION => match declared_row(bytes, tree) {
-            Some((_id, (blob, _sizes))) => Ok(Link::Apart { blob }),
-            None => Ok(Link::Unread),
+            Some((_id, (blob, _sizes))) => Ok(Carrier::Apart { blob }),
+            None => Ok(Carrier::Unread),
         },
         object_types::OBJECT_GROUP_OBJECT_DATA_BLOB_REFERENCE => match reference_row(
             alloc, bytes, tree,
         )? {
-            Some((_references, (_cells, blob))) => Ok(Link::Apart { blob }),
-            None => Ok(Link::Unread),
+            Some((_references, (_cells, blob))) => Ok(Carrier::Apart { blob }),
+            None => Ok(Carrier::Unread),
         },
-        _ => Ok(Link::Inline),
+        _ => Ok(Carrier::Inline),
     }
 }
 
-/// The links of the objects of two types, in order.
-fn links(
+/// The carriers of the objects of two types, in order.
+fn carriers(
     alloc: Global,
     bytes: &[u8],
     trees: &[Tree],
     first: u16,
     second: u16,
-) -> Result<Links, NoMemory>
-    ensures { IfOk result (λ links. links ≡ map (link_at bytes.now) (filter (λ c. is_kind first c || is_kind second c) trees.now)) }
+) -> Result<Carriers, NoMemory>
+    ensures { IfOk result (λ carriers. carriers ≡ map (carrier_at bytes.now) (filter (λ c. is_kind first c || is_kind second c) trees.now)) }
 {
-    let mut links = Seq::new(alloc);
+    let mut carriers = Seq::new(alloc);
     for tree in trees {
         if tree.kind == first || tree.kind == second {
-            links.push(link_at(alloc, bytes, tree)?)?;
+            carriers.push(carrier_at(alloc, bytes, tree)?)?;
         }
     }
-    Ok(links)
+    Ok(carriers)
 }
 
 fn same_id(a: ExGuid, b: ExGuid) -> bool
@@ -98,38 +98,38 @@ fn same_id(a: ExGuid, b: ExGuid) -> bool
 }
 
 /// Whether a declaration and data belong together, as far as they are in form.
-fn link_agrees(declaration: Link, held: Link) -> bool
-    ensures { result ≡ link_agrees declaration held }
+fn carrier_agrees(declaration: Carrier, held: Carrier) -> bool
+    ensures { result ≡ carrier_agrees declaration held }
 {
     match declaration {
-        Link::Inline => match held {
-            Link::Inline => true,
-            Link::Apart { .. } => false,
-            Link::Unread => false,
+        Carrier::Inline => match held {
+            Carrier::Inline => true,
+            Carrier::Apart { .. } => false,
+            Carrier::Unread => false,
         },
-        Link::Apart { blob } => match held {
-            Link::Inline => false,
-            Link::Apart { blob: named } => same_id(blob, named),
-            Link::Unread => true,
+        Carrier::Apart { blob } => match held {
+            Carrier::Inline => false,
+            Carrier::Apart { blob: named } => same_id(blob, named),
+            Carrier::Unread => true,
         },
-        Link::Unread => match held {
-            Link::Inline => false,
-            Link::Apart { .. } => true,
-            Link::Unread => true,
+        Carrier::Unread => match held {
+            Carrier::Inline => false,
+            Carrier::Apart { .. } => true,
+            Carrier::Unread => true,
         },
     }
 }
 
 /// Whether there are as many of the one as of the other, and the k-th of each belong together.
-fn links_agree(declarations: &[Link], held: &[Link]) -> bool
-    ensures { result ≡ links_agree declarations.now held.now }
+fn carriers_agree(declarations: &[Carrier], held: &[Carrier]) -> bool
+    ensures { result ≡ carriers_agree declarations.now held.now }
 {
     let mut left = held;
     for declaration in declarations {
         match left {
             [] => return false,
             [first, rest @ ..] => {
-                if !link_agrees(*declaration, *first) {
+                if !carrier_agrees(*declaration, *first) {
                     return false;
                 }
                 left = rest;
@@ -148,21 +148,21 @@ fn halves_agree(
 ) -> Result<bool, NoMemory>
     ensures { IfOk result (λ agree. agree ≡ halves_agree bytes.now declarations.now held.now) }
 {
-    let declared = links(
+    let declared = carriers(
         alloc,
         bytes,
         declarations.children.as_slice(),
         object_types::OBJECT_GROUP_OBJECT_DECLARE,
         object_types::OBJECT_GROUP_OBJECT_BLOB_DATA_DECLARATION,
     )?;
-    let named = links(
+    let named = carriers(
         alloc,
         bytes,
         held.children.as_slice(),
         object_types::OBJECT_GROUP_OBJECT_DATA,
         object_types::OBJECT_GROUP_OBJECT_DATA_BLOB_REFERENCE,
     )?;
-    Ok(links_agree(declared.as_slice(), named.as_slice()))
+    Ok(carriers_agree(declared.as_slice(), named.as_slice()))
 }
 
 #[tactic(auto, unfolding(crate::specs::GroupReading::declaration_at))]

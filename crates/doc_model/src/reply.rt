@@ -22,7 +22,7 @@ pub enum Submitted {
     Answered { reply: Reply },
     /// The change could not be kept, since the disk failed.
     DiskFault,
-    /// The change could not be kept, since the journal has no room for another record.
+    /// The change could not be kept, since the journal has no room for another body.
     JournalFull,
     /// No memory was left.
     NoMemory,

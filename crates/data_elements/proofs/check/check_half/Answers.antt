@@ -1,5 +1,5 @@
 use Rattle.std.proofs.Common.{arith}
-use Rattle.data_elements.proofs.Links.{second_half}
+use Rattle.data_elements.proofs.Carriers.{second_half}
 use Rattle.data_elements.proofs.check.check_half.Goals as goal
 
 pub returns-then-tree-eq-OBJECT_GROUP_DATA : goal.returns-then-tree-eq-OBJECT_GROUP_DATA

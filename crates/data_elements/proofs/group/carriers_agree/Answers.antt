@@ -1,6 +1,6 @@
 use Rattle.std.proofs.Common.{sym, ◌∙◌, arith}
-use Rattle.data_elements.proofs.Links.{none_left}
-use Rattle.data_elements.proofs.group.links_agree.Goals as goal
+use Rattle.data_elements.proofs.Carriers.{none_left}
+use Rattle.data_elements.proofs.group.carriers_agree.Goals as goal
 
 pub returns-in-empty : goal.returns-in-empty
 returns-in-empty c =

@@ -1,13 +1,13 @@
--- Links of declarations that have no data.
+-- Carriers of declarations that have no data.
 use Rattle.std.proofs.Common.{◌≡◌, ℕ, zero, suc, ◌<◌, false, List, [], ◌∷◌, drop, length, refl, arith}
 use Rattle.stream_objects.specs.declared.tree.Tree.{Tree}
 use Rattle.stream_objects.specs.Objects.{kind_of}
 use Rattle.doc_model.specs.wire.Groups.{data_in}
 use Rattle.doc_model.specs.readers.ElementSites.{members_in}
-use Rattle.data_elements.specs.declared.group.Link.{Link}
-use Rattle.data_elements.specs.GroupReading.{links_agree}
+use Rattle.data_elements.specs.declared.group.Carrier.{Carrier}
+use Rattle.data_elements.specs.GroupReading.{carriers_agree}
 
-pub none_left : (ds es : List Link) (i : ℕ) → i < length ds → length es < 1 → links_agree (drop i ds) es ≡ false
+pub none_left : (ds es : List Carrier) (i : ℕ) → i < length ds → length es < 1 → carriers_agree (drop i ds) es ≡ false
 none_left [] es i lt z = absurd (omega (arith, lt))
 none_left (d ∷ ds) (e ∷ es) i lt z = absurd (omega (arith, z))
 none_left (d ∷ ds) [] zero lt z = refl
