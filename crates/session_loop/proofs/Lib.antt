@@ -12,3 +12,6 @@ mod Rooming
 pub mod Safe
 mod OneCut
 mod SomeCut
+mod Joining
+mod Wanting
+mod Passing
