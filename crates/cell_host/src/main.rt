@@ -12,8 +12,6 @@ mod put_tests;
 mod serving;
 mod status;
 #[cfg(test)]
-mod test_bytes;
-#[cfg(test)]
 mod test_calls;
 #[cfg(test)]
 mod test_files;
