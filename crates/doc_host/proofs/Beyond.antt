@@ -14,7 +14,7 @@ use Rattle.doc_model.specs.rules.Histories.{History, Tried, is_answered}
 use Rattle.doc_model.specs.laws.Histories.{gained, Became}
 use Rattle.doc_model.proofs.Attempts.{tried-nothing, tried-later, tried-with-next}
 use Rattle.doc_host.specs.declared.journaled.Opening.{Opening}
-use Rattle.doc_host.specs.Submits.{turn_after}
+use Rattle.doc_host.specs.Submits.{effect_after}
 use Rattle.doc_host.specs.Attempts.{has_changed, attempt, attempts}
 use Rattle.doc_host.specs.Seats.{TriedBeyond, call_made, history_after}
 
@@ -46,13 +46,13 @@ module _ (o : Opening) (taken : History) (n : ℕ) (call : Call) (submitted : Su
       → calls_by n (history_after o taken n call submitted) ≡ moved_calls (made ++ call_made o taken call submitted before after ∷ [])
   next_calls made own =
       let item = call_made o taken call submitted before after in
-      let b = (turn_after o taken call).moved in
+      let b = (effect_after o taken call).moved in
       calls_by-append n taken (gained n call submitted b)
       ∙ ap (λ (l : List Call). l ++ calls_by n (gained n call submitted b)) own
       ∙ ap (λ (l : List Call). moved_calls made ++ l) (gains_by b n call submitted item.at item.answer)
       ∙ sym (moved-append made (item ∷ []))
 
-  pub next_tried : (made : List (Kept Call Made)) → Tried o.doc o.bodies taken n (attempts made) → Became (turn_after o taken call) o.bodies (attempt (call_made o taken call submitted before after)) submitted
+  pub next_tried : (made : List (Kept Call Made)) → Tried o.doc o.bodies taken n (attempts made) → Became (effect_after o taken call) o.bodies (attempt (call_made o taken call submitted before after)) submitted
       → Tried o.doc o.bodies (history_after o taken n call submitted) n (attempts (made ++ call_made o taken call submitted before after ∷ []))
   next_tried made t became =
       let item = call_made o taken call submitted before after in

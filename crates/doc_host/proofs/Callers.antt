@@ -91,10 +91,10 @@ none_ended n (x ∷ es) h (suc i) e p = none_ended n es h.1 i e p
 
 module _ (opening : Opening) (history : History) (faults : ℕ) (v : Known) (h : HasClosed opening history faults v) where
   owned : (n : ℕ) → (calls_by n history ≡ [] → ⊥) → Any (λ c. c.0 ≡ n) (callers_of v)
-  owned n some = by (find n (callers_of v)) where
+  owned n there = by (find n (callers_of v)) where
     by : Any (λ c. c.0 ≡ n) (callers_of v) ⊎ Each (λ c. c.0 ≢ n) (callers_of v) → Any (λ c. c.0 ≡ n) (callers_of v)
     by (inl a) = a
-    by (inr f) = absurd (some (h.others n f.0 (λ x. none_ended n v.ended f.1 x.0 x.1 x.2 x.3)))
+    by (inr f) = absurd (there (h.others n f.0 (λ x. none_ended n v.ended f.1 x.0 x.1 x.2 x.3)))
 
   pub are_callers : AreCallers opening.doc history (callers_of v)
   are_callers = record {

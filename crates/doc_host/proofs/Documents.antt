@@ -14,7 +14,7 @@ use Rattle.doc_model.specs.rules.Histories.{History, EachMoves, Fits, is_answere
 use Rattle.doc_model.specs.laws.Histories.{gained, Became, MovesByKind}
 use Rattle.doc_model.specs.rules.Limits.{most_bodies}
 use Rattle.doc_model.specs.rules.Sound.{Sound, Valid}
-use Rattle.doc_model.specs.rules.Effects.{Turn}
+use Rattle.doc_model.specs.rules.Effects.{Effect}
 use Rattle.doc_model.specs.declared.call.Call.{Call}
 use Rattle.doc_model.specs.declared.doc.Doc.{Doc}
 use Rattle.doc_model.specs.declared.made.Made.{Made}
@@ -31,7 +31,7 @@ use Rattle.journaled_doc.specs.declared.kept.Kept.{Kept}
 use Rattle.doc_host.specs.declared.journaled.Opening.{Opening}
 use Rattle.doc_host.specs.Attempts.{has_changed, last_made}
 use Rattle.doc_host.specs.Documents.{last_of}
-use Rattle.doc_host.specs.Submits.{turn_after, HasRoom, HasSubmitted}
+use Rattle.doc_host.specs.Submits.{effect_after, HasRoom, HasSubmitted}
 
 pub doc-set : (a b : Doc) → IsProp (a ≡ b)
 doc-set a b = Coded-set doc_row.coded a b
@@ -75,36 +75,36 @@ below most count h = omega (arith, h)
 
 module _ (o : Opening) (old new : History) (caller : ℕ) (call : Call) (before after count : ℕ) (later : Doc) (t : Told) (valid : All (λ item. Valid item.1) old) (kinds : MovesByKind)
     (counted : count ≡ o.bodies + length old) where
-  abbrev turn : Turn
-  turn = turn_after o old call
+  abbrev effect : Effect
+  effect = effect_after o old call
 
-  became_so : (s : Submitted) → IsAnswered turn (replay o.doc old) later s → HasCause before after turn.moved count s
-      → Became turn o.bodies (record { at = length old; call = call; made = record { submitted = s; before = before; after = after } }) s
+  became_so : (s : Submitted) → IsAnswered effect (replay o.doc old) later s → HasCause before after effect.moved count s
+      → Became effect o.bodies (record { at = length old; call = call; made = record { submitted = s; before = before; after = after } }) s
   became_so (Answered reply) a c = a.0
   became_so DiskFault a c = c.cause
   became_so JournalFull a c = (c.cause.0, subst (λ (n : ℕ). most_bodies ≤ n) counted c.cause.1)
   became_so NoMemory a c = tt
 
-  has_room : (s : Submitted) → HasCause before after turn.moved count s → (turn.moved ≡ true → most_bodies ≤ count → MayBeFull s) → HasRoom turn.moved (o.bodies + length old) s
-  has_room (Answered reply) c full m = below most_bodies (o.bodies + length old) (λ le. not_answered reply (full m (subst (λ (n : ℕ). most_bodies ≤ n) (sym counted) le)))
+  has_room : (s : Submitted) → HasCause before after effect.moved count s → (effect.moved ≡ true → most_bodies ≤ count → MayBeFull s) → HasRoom effect.moved (o.bodies + length old) s
+  has_room (Answered reply) c full = λ m. below most_bodies (o.bodies + length old) (λ le. not_answered reply (full m (subst (λ (n : ℕ). most_bodies ≤ n) (sym counted) le)))
   has_room DiskFault c full = below most_bodies (o.bodies + length old) (λ le. not_fault (full c.cause.0 (subst (λ (n : ℕ). most_bodies ≤ n) (sym counted) le)))
   has_room JournalFull c full = tt
   has_room NoMemory c full = tt
 
-  fits_there : (s : Submitted) → IsAnswered turn (replay o.doc old) later s → HasCause before after turn.moved count s → Sound o.doc → Fits call s
+  fits_there : (s : Submitted) → IsAnswered effect (replay o.doc old) later s → HasCause before after effect.moved count s → Sound o.doc → Fits call s
   fits_there (Answered reply) a c sound = (replay o.doc old, (histories-follow o.doc old sound valid).0, sym a.0)
   fits_there DiskFault a c sound = kinds (replay o.doc old) call c.cause.0
   fits_there JournalFull a c sound = kinds (replay o.doc old) call c.cause.0
   fits_there NoMemory a c sound = tt
 
-  pub submitted_so : (s : Submitted) → IsAnswered turn (replay o.doc old) later s → HasCause before after turn.moved count s → (turn.moved ≡ true → most_bodies ≤ count → MayBeFull s)
-      → new ≡ old ++ gained caller call s turn.moved → IsLast caller call s before after turn.moved t → HasSubmitted o old new (last_of t.last) before after caller call s
+  pub submitted_so : (s : Submitted) → IsAnswered effect (replay o.doc old) later s → HasCause before after effect.moved count s → (effect.moved ≡ true → most_bodies ≤ count → MayBeFull s)
+      → new ≡ old ++ gained caller call s effect.moved → IsLast caller call s before after effect.moved t → HasSubmitted o old new (last_of t.last) before after caller call s
   submitted_so s a c full gains last = record {
     became = became_so s a c;
     room = has_room s c full;
     fits = fits_there s a c;
     gains = gains;
-    noted = noted_as caller call s before after turn.moved t last;
+    noted = noted_as caller call s before after effect.moved t last;
     faults = c.later;
   }
 

@@ -19,7 +19,7 @@ use Rattle.doc_model.specs.rules.Histories.{History, Tried}
 use Rattle.doc_model.specs.laws.Histories.{gained, Became}
 use Rattle.doc_host.specs.declared.journaled.Opening.{Opening}
 use Rattle.turn_board.specs.declared.kept.Last.{Last}
-use Rattle.doc_host.specs.Submits.{turn_after, HasRoom, HasSubmitted}
+use Rattle.doc_host.specs.Submits.{effect_after, HasRoom, HasSubmitted}
 use Rattle.doc_host.specs.Attempts.{attempt, attempts}
 use Rattle.doc_host.specs.Seats.{Known, Knows, TriedBeyond, call_made, history_after, MakesWith}
 use Rattle.doc_host.proofs.Beyond.{beyond_more, beyond_tried, next_calls, next_tried}
@@ -55,8 +55,8 @@ module _ (v : Known) (k : Knows v) (o : Opening) (rooted : v.root ≡ Some o) (p
 
   story_is : new ≡ history_after o v.taken v.number call submitted
   story_is =
-      let P = λ (t : History). t ++ gained caller call submitted (turn_after o t call).moved in
-      h.gains ∙ ap P (sym took) ∙ ap (λ (n : ℕ). v.taken ++ gained n call submitted (turn_after o v.taken call).moved) who
+      let P = λ (t : History). t ++ gained caller call submitted (effect_after o t call).moved in
+      h.gains ∙ ap P (sym took) ∙ ap (λ (n : ℕ). v.taken ++ gained n call submitted (effect_after o v.taken call).moved) who
 
   left_is : w ≡ made_view
   left_is =
@@ -72,7 +72,7 @@ module _ (v : Known) (k : Knows v) (o : Opening) (rooted : v.root ≡ Some o) (p
   tried_then : Tried o.doc o.bodies made_view.seen made_view.number (attempts made_view.made)
   tried_then =
       next_tried o v.taken v.number call submitted before after v.made tried_before
-      (subst (λ (t : History). Became (turn_after o t call) o.bodies (attempt (call_made o t call submitted before after)) submitted) (sym took) h.became)
+      (subst (λ (t : History). Became (effect_after o t call) o.bodies (attempt (call_made o t call submitted before after)) submitted) (sym took) h.became)
 
   pub makes : MakesWith v.turns call submitted v w
   makes = record {
@@ -86,7 +86,7 @@ module _ (v : Known) (k : Knows v) (o : Opening) (rooted : v.root ≡ Some o) (p
     view_is = left_is ∙ ap (λ (u : Known). record made_view { looked = u.looked; tally = u.tally; given = u.given }) (sym left_is);
     tried = subst (λ (u : Known). Tried o.doc o.bodies u.seen u.number (attempts u.made)) (sym left_is) tried_then;
     fits = h.fits;
-    room = subst (λ (t : History). HasRoom (turn_after o t call).moved (o.bodies + length t) submitted) (sym took) h.room;
+    room = subst (λ (t : History). HasRoom (effect_after o t call).moved (o.bodies + length t) submitted) (sym took) h.room;
   }
 
   pub knows_then : Knows w
@@ -94,5 +94,5 @@ module _ (v : Known) (k : Knows v) (o : Opening) (rooted : v.root ≡ Some o) (p
     opening = o;
     rooted = rooted;
     own = beyond_tried o made_view.seen v.number made_view.made tried_then (next_calls o v.taken v.number call submitted before after v.made own);
-    ended = λ i e at. beyond_more o v.seen made_view.seen e.number e.made (prefix_trans v.seen v.taken made_view.seen pre (gained v.number call submitted (turn_after o v.taken call).moved, refl)) (beyond e.number e.made (k.ended i e at));
+    ended = λ i e at. beyond_more o v.seen made_view.seen e.number e.made (prefix_trans v.seen v.taken made_view.seen pre (gained v.number call submitted (effect_after o v.taken call).moved, refl)) (beyond e.number e.made (k.ended i e at));
   })

@@ -16,7 +16,7 @@ use Rattle.doc_model.specs.rules.Histories.{History, Tried, Fits, is_answered}
 use Rattle.doc_model.specs.laws.Histories.{gained}
 use Rattle.doc_model.specs.rules.Sound.{Sound}
 use Rattle.doc_host.specs.declared.journaled.Opening.{Opening}
-use Rattle.doc_host.specs.Submits.{turn_after, HasRoom}
+use Rattle.doc_host.specs.Submits.{effect_after, HasRoom}
 use Rattle.doc_host.specs.Attempts.{has_changed, attempts}
 
 -- what a seat at a document knows
@@ -44,12 +44,12 @@ call_made opening taken call submitted before after = record {
   call = call;
   answer = record { submitted = submitted; before = before; after = after };
   answered = is_answered submitted;
-  moved = has_changed submitted (turn_after opening taken call).moved;
+  moved = has_changed submitted (effect_after opening taken call).moved;
 }
 
 -- the history after it
 abbrev pub history_after : Opening → History → ℕ → Call → Submitted → History
-history_after opening taken n call submitted = taken ++ gained n call submitted (turn_after opening taken call).moved
+history_after opening taken n call submitted = taken ++ gained n call submitted (effect_after opening taken call).moved
 
 -- The seat, whose view was v, made this call in a turn and has so many turns left: its view is w. At the take the history went on
 -- from all that it had seen. The call stands behind all that it made, with its place and the disk's counts of faults. What is seen
@@ -75,7 +75,7 @@ pub record MakesWith (turns : ℕ) (call : Call) (submitted : Submitted) (v w : 
     floor = length (history_after opening taken v.number call submitted);
   }
   pub tried : Tried opening.doc opening.bodies w.seen w.number (attempts w.made)
-  pub room : HasRoom (turn_after opening taken call).moved (opening.bodies + length taken) submitted
+  pub room : HasRoom (effect_after opening taken call).moved (opening.bodies + length taken) submitted
   pub fits : Sound opening.doc → Fits call submitted
 
 -- the same at the cost of one turn
