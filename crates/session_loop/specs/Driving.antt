@@ -5,7 +5,7 @@ use Rattle.host_edge.specs.Causes.{Rose}
 use Rattle.host_edge.specs.Streams.{AppendsFront}
 use Rattle.session_loop.specs.Cutting.{Request, Ending, Cut}
 use Rattle.session_loop.specs.Courses.{Course, ends, writes, Event, wrote, told, made, counted, PassesAll, Takes, course, text_of, moments_of}
-use Rattle.session_loop.specs.Documents.{Kept, IsSubmitted}
+use Rattle.session_loop.specs.Documents.{Kept, IsSubmitted, IsLone}
 use Rattle.session_loop.specs.Rooms.{Falls}
 use Rattle.session_loop.specs.Safety.{IsSafe}
 use Rattle.session_loop.specs.Sessions.{Machine, Future, IsSettled}
@@ -31,13 +31,14 @@ Tells None left moments = Unit {0}
 Tells (Some due) None moments = ⊥
 Tells (Some due) (Some left) moments = TellsEach due moments left
 
--- these events, on these documents: each call is answered by its document as it then is, each count is its document's
+-- These events, on these documents: each call is answered by its document as it then is, or there is no memory for it and
+-- nothing has changed; each count is its document's.
 abbrev pub Happens : List Kept → List Event → List Kept → Type 0
 Happens docs [] after = after ≡ docs
 Happens docs (wrote text ∷ events) after = Happens docs events after
 Happens docs (told moment ∷ events) after = Happens docs events after
 Happens docs (made doc call submitted ∷ events) after =
-    (k n : Kept) × (slice_get docs doc ≡ Some k) × IsSubmitted k call submitted n × Happens (set docs doc n) events after
+    (k n : Kept) × (slice_get docs doc ≡ Some k) × IsLone submitted × IsSubmitted k call submitted n × Happens (set docs doc n) events after
 Happens docs (counted doc count ∷ events) after = (k : Kept) × (slice_get docs doc ≡ Some k) × (count ≡ k.front) × Happens docs events after
 
 -- from one time to another these bytes came and these events happened, and nothing else
@@ -88,11 +89,17 @@ abbrev pub left_of : Option (List ℕ) → List ℕ
 left_of None = []
 left_of (Some bytes) = bytes
 
+-- how a course can end: no fault of a source or a sink is an end of it
+abbrev pub IsCourseEnd : SessionEnd → Type 0
+IsCourseEnd ReadFault = ⊥
+IsCourseEnd WriteFault = ⊥
+IsCourseEnd end = Unit {0}
+
 -- What serving a connection did, by how it ended.
 pub data Drives (names : List (List ℕ)) (v w : View) : SessionEnd → Type 0 where
   -- all that the source had left was served, up to its end or to an answer that closes
   served : (end : SessionEnd) (bytes : List ℕ) (events : List Event) → Passed v w bytes events → Served names (bytes ++ left_of w.left) events end
-      → Drives names v w end
+      → IsCourseEnd end → Drives names v w end
   -- the bytes that came before the fault were served as if they were all
   read_failed : (x : View) (end : SessionEnd) (bytes : List ℕ) (events : List Event) → Passed v x bytes events → FailsToRead x w → IsSourceEnd end
       → Served names bytes events end → Drives names v w ReadFault

@@ -161,7 +161,7 @@ fn turn<C: Core, S: Source, K: Sink, T: Clock>(
 
 /// Serves the connection of the source: its requests one after the other, over the documents of the names, up to its end
 /// or to an answer that closes. It says how it ended. `ReadFault` and `WriteFault` come only where the source's or the
-/// sink's count of faults rose.
+/// sink's count of faults rose; where none rose, all was served up to the end that the bytes have, or there was no memory.
 pub fn drive_lone<C: Core, S: Source, K: Sink, T: Clock>(
     alloc: Global,
     docs: &mut LoneDocs<C>,
@@ -176,6 +176,7 @@ pub fn drive_lone<C: Core, S: Source, K: Sink, T: Clock>(
         (record { left = S.left source.old; read_faults = S.faults source.old; held = K.held out.old; write_faults = K.faults out.old; told = T.told clock.old; docs = map (λ d. record { doc = C.doc d.core; front = d.front }) docs.old.docs.items })
         (record { left = S.left source.new; read_faults = S.faults source.new; held = K.held out.new; write_faults = K.faults out.new; told = T.told clock.new; docs = map (λ d. record { doc = C.doc d.core; front = d.front }) docs.new.docs.items })
         result }
+    ensures docs { length docs.new.names ≡ length docs.new.docs.items }
     ensures sound { All (λ d. Sound (C.doc d.core)) docs.new.docs.items }
 {
     let Ok(mut session) = Session::new(alloc, &docs.names) else {
