@@ -10,7 +10,7 @@ returns-in-Ok-eq0-clause-turned g c = λ v left faults.
     let at_end : IsAtEnd (g.S.Source.left c.read.new.self) = search rules in
     source_over v (g.S.Source.left c.args.source.now) (g.S.Source.left c.read.new.self) (g.S.Source.faults c.args.source.now) (g.S.Source.faults c.read.new.self)
     c.args.session.now c.feed_end.new.self c.end_of.result left faults
-    (subst (λ (n : ℕ). Consumes (g.S.Source.left c.args.source.now) (g.S.Source.left c.read.new.self) (take n c.read.new.into)) c.in-Ok-eq0.field-0-is c.in-Ok-eq0.ensures.bytes.0)
+    (search rules)
     at_end c.in-Ok-eq0.ensures.cause.kept c.feed_end.ensures.closes c.end_of.ensures
 
 pub returns-in-Ok-feed-clause-turned : goal.returns-in-Ok-feed-clause-turned
