@@ -1,5 +1,5 @@
 -- No fault of a source or a sink is an end of a course.
-use Rattle.std.proofs.Common.{◌≡◌, ◌-◌, ℕ, List, [], ◌∷◌, Bool, true, false, sym, subst}
+use Rattle.std.proofs.Common.{◌-◌, ℕ, List, [], ◌∷◌, Bool, true, false, sym, subst}
 use Rattle.std.specs.Prelude.{if◌then◌else◌}
 use Rattle.doc_model.specs.declared.reply.Reply.TheVariants.{Done, Access, Pulled, Stored, Drawn, Locked, VersionList, File, Lone, Me, Refused}
 use Rattle.doc_model.specs.declared.reply.Submitted.{Submitted}

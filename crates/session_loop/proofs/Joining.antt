@@ -1,16 +1,15 @@
 -- How turns join, and what they come to.
 use Rattle.std.proofs.Common.{◌≡◌, ℕ, List, [], ◌∷◌, ◌++◌, drop, Option, Some, None, refl, sym, ap, subst, ◌∙◌, append_assoc}
-use Rattle.std.specs.Prelude.{⊤, set, slice_get}
+use Rattle.std.specs.Prelude.{set}
 use Rattle.std.proofs.lemmas.List.{append-nil}
 use Rattle.std.specs.Io.KnownBytes.{Appends}
 use Rattle.std.proofs.KnownBytes.{Consumes-nil, Consumes-trans, Appends-nil, Appends-trans}
 use Rattle.session_loop.specs.Cutting.{Request, Ending, Cut}
-use Rattle.session_loop.specs.Courses.{Course, ends, Event, wrote, told, made, counted, Passes, PassesAll, course, text_of, moments_of}
-use Rattle.session_loop.specs.Documents.{Kept, IsSubmitted}
-use Rattle.session_loop.specs.Driving.{View, TellsEach, Tells, Happens, Passed, Served, ServedSoFar, IsWriting, left_of, Drives, served, read_failed, write_failed, no_memory, Went, Stops, over, read_fault, write_fault, wanting}
+use Rattle.session_loop.specs.Courses.{Course, ends, Event, wrote, told, made, counted, PassesAll, course, text_of, moments_of}
+use Rattle.session_loop.specs.Documents.{Kept}
+use Rattle.session_loop.specs.Driving.{View, TellsEach, Tells, Happens, Passed, Served, left_of, Drives, served, read_failed, write_failed, no_memory, Went, Stops, over, read_fault, write_fault, wanting}
 use Rattle.session_loop.specs.Sessions.{Machine, IsFresh, Serves, Future, FutureAt, Leads, Tracks, LeadsBy, TracksBy}
 use Rattle.session_loop.specs.declared.stage.Stage.{Stage}
-use Rattle.session_loop.specs.declared.stage.Stage.TheVariants.{Heading}
 use Rattle.session_loop.specs.declared.want.SessionEnd.{SessionEnd}
 use Rattle.session_loop.proofs.CourseEnds.{served_end}
 

@@ -1,5 +1,5 @@
 -- What one turn does outside.
-use Rattle.std.proofs.Common.{◌≡◌, ◌<◌, ℕ, List, [], ◌∷◌, ◌++◌, drop, length, map, Option, Some, None, refl, sym, ap, subst, ◌∙◌}
+use Rattle.std.proofs.Common.{◌≡◌, ◌<◌, ℕ, List, [], ◌∷◌, drop, length, map, Option, Some, None, refl, sym, ap, subst, ◌∙◌}
 use Rattle.std.specs.Prelude.{IfSome, set, slice_get, slice_index}
 use Rattle.std.proofs.Math.ListN.{get_or}
 use Rattle.std.proofs.lemmas.Option.{slice_get-map, slice_get-get_or}
@@ -11,12 +11,11 @@ use Rattle.std.proofs.lemmas.List.{append-nil, map-set}
 use Rattle.std.proofs.KnownBytes.{Consumes-nil, Appends-nil}
 use Rattle.doc_model.specs.declared.call.Call.{Call}
 use Rattle.doc_model.specs.declared.reply.Submitted.{Submitted}
-use Rattle.session_loop.specs.Courses.{Course, ends, wrote, told, made, counted}
+use Rattle.session_loop.specs.Courses.{ends, wrote, told, made, counted}
 use Rattle.session_loop.specs.Documents.{Kept, IsSubmitted, IsLone}
-use Rattle.session_loop.specs.Driving.{View, Tells, Passed, FailsToRead, FailsToWrite, left_of, Stops, over, read_fault, write_fault, wanting}
+use Rattle.session_loop.specs.Driving.{View, Tells, Passed, left_of, Stops, over, read_fault, write_fault, wanting}
 use Rattle.session_loop.specs.Sessions.{Machine, Future, Closes, WantsIs, IsSettled, IsCallOf}
 use Rattle.session_loop.specs.declared.stage.Stage.{Stage}
-use Rattle.session_loop.specs.declared.stage.Stage.TheVariants.{Over}
 use Rattle.session_loop.specs.declared.want.SessionEnd.{SessionEnd}
 use Rattle.session_loop.specs.declared.want.SessionEnd.TheVariants.{ReadFault, WriteFault, NoMemory}
 use Rattle.session_loop.specs.declared.want.Want.{Want}

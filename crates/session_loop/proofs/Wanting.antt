@@ -1,5 +1,5 @@
 -- What is known of a session by what it wants.
-use Rattle.std.proofs.Common.{◌≡◌, ◌<◌, ℕ, List, [], ◌∷◌, ◌++◌, Bool, true, false, Option, Some, None, Result, Ok, Err, refl, sym, ap, subst, ◌∙◌, inl, inr, arith}
+use Rattle.std.proofs.Common.{◌≡◌, ℕ, List, [], ◌++◌, Bool, true, false, Option, Some, None, Result, Ok, Err, refl, sym, ap, subst, inl, inr, arith}
 use Rattle.std.specs.Prelude.{decimal, if◌then◌else◌}
 use Rattle.std.specs.List.{list_any}
 use Rattle.doc_model.specs.declared.call.Call.{Call}
@@ -10,10 +10,10 @@ use Rattle.collection_run.specs.Processes.{Process, says, calls, Asks}
 use Rattle.collection_run.specs.Progress.{process_of}
 use Rattle.collection_run.specs.declared.progress.Progress.{Progress}
 use Rattle.session_loop.specs.Cutting.{Wish, wish_of, is_last}
-use Rattle.session_loop.specs.Courses.{Course, ends, tells, makes, refusing, granted, run, answered, file_answered, Event, wrote, told, made, counted, Passes}
+use Rattle.session_loop.specs.Courses.{Course, ends, refusing, granted, run, answered, file_answered, wrote, told, made, counted, Passes}
 use Rattle.session_loop.specs.Driving.{IsWriting, IsSourceEnd}
 use Rattle.session_loop.specs.Rooms.{RoomAt, RunRoom, HasRoom, later}
-use Rattle.session_loop.specs.Sessions.{Machine, Judged, RunServes, FileServes, Future, FutureAt, WantsIs, IsOutOf, CallAt, IsCallOf, SettledAt, IsSettled, EndIs}
+use Rattle.session_loop.specs.Sessions.{Machine, Judged, RunServes, FileServes, Future, FutureAt, WantsIs, IsOutOf, CallAt, IsCallOf, SettledAt, IsSettled}
 use Rattle.session_loop.specs.declared.want.SessionEnd.{SessionEnd}
 use Rattle.session_loop.specs.declared.want.SessionEnd.TheVariants.{Ended, CutOff}
 use Rattle.session_loop.specs.declared.want.Want.{Want}

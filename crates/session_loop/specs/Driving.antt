@@ -1,6 +1,6 @@
 -- What serving a connection does to what is outside of it: source, sink, clock and documents.
 use Rattle.std.specs.Prelude.{◌≡◌, ◌⊎◌, ℕ, List, [], ◌∷◌, ◌++◌, drop, set, slice_get, slice_index, Option, Some, None, ⊤}
-use Rattle.std.specs.Io.KnownBytes.{Appends, Consumes, IsAtEnd, Keeps}
+use Rattle.std.specs.Io.KnownBytes.{Appends, Consumes, Keeps}
 use Rattle.host_edge.specs.Causes.{Rose}
 use Rattle.host_edge.specs.Streams.{AppendsFront}
 use Rattle.session_loop.specs.Cutting.{Request, Ending, Cut}

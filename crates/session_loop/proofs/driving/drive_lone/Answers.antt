@@ -1,5 +1,4 @@
-use Rattle.std.proofs.Common.{◌≡◌, List, [], All, length, map, ap, sym, subst, refl, ◌∙◌}
-use Rattle.doc_model.specs.rules.Sound.{Sound}
+use Rattle.std.proofs.Common.{[], refl}
 use Rattle.session_loop.specs.Courses.{course}
 use Rattle.session_loop.specs.Driving.{no_memory}
 use Rattle.session_loop.proofs.Joining.{nothing_passed}

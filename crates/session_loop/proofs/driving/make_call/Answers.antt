@@ -1,14 +1,7 @@
-use Rattle.std.proofs.Common.{◌≡◌, ◌<◌, ℕ, List, [], ◌∷◌, length, map, Some, sym, ap, subst, ◌∙◌}
-use Rattle.std.specs.Prelude.{slice_get, set}
-use Rattle.std.specs.Option.{option_map}
-use Rattle.std.proofs.Math.ListN.{get_or}
-use Rattle.std.proofs.lemmas.List.{map-set}
+use Rattle.std.proofs.Common.{◌<◌, ℕ, [], ◌∷◌, length, subst}
 use Rattle.std.proofs.lemmas.List.Elements.{All-set}
-use Rattle.std.proofs.lemmas.Option.{slice_get-map, slice_get-get_or}
 use Rattle.doc_model.specs.rules.Sound.{Sound}
 use Rattle.session_loop.specs.Courses.{made}
-use Rattle.session_loop.specs.Documents.{Kept}
-use Rattle.session_loop.specs.Driving.{View, Passed}
 use Rattle.session_loop.proofs.Joining.{went_by}
 use Rattle.session_loop.proofs.Passing.{made_of, made_wanting}
 use Rattle.session_loop.proofs.Safe.{valid_call, fits_of, sound_of, wanted_within}

@@ -1,7 +1,7 @@
 use Rattle.std.proofs.Common.{◌≡◌, ℕ, List, All, length, map}
 use Rattle.doc_model.specs.rules.Sound.{Sound}
 use Rattle.session_loop.specs.Courses.{Event}
-use Rattle.session_loop.specs.Driving.{View, Passed, Went}
+use Rattle.session_loop.specs.Driving.{Passed, Went}
 use Rattle.session_loop.specs.Rooms.{HasRoom}
 use Rattle.session_loop.specs.Safety.{IsSafe}
 use Rattle.session_loop.specs.Sessions.{IsSettled}

@@ -1,6 +1,5 @@
-use Rattle.std.proofs.Common.{rules, ◌≡◌, ℕ, List, [], take, Option, sym, subst, ◌∙◌}
+use Rattle.std.proofs.Common.{rules, ℕ, List, [], take, Option, sym, subst, ◌∙◌}
 use Rattle.std.specs.Io.KnownBytes.{Consumes, IsAtEnd}
-use Rattle.session_loop.specs.Driving.{View}
 use Rattle.session_loop.proofs.Joining.{went_over}
 use Rattle.session_loop.proofs.Passing.{read_passed, source_over, source_failed, bytes_wanting}
 use Rattle.session_loop.proofs.driving.take_bytes.Goals as goal

@@ -1,6 +1,6 @@
-use Rattle.std.proofs.Common.{◌≡◌, ℕ, List, [], ◌∷◌, Option, sym, subst}
+use Rattle.std.proofs.Common.{ℕ, List, [], ◌∷◌, Option, sym, subst}
 use Rattle.session_loop.specs.Courses.{told}
-use Rattle.session_loop.specs.Driving.{View, Tells}
+use Rattle.session_loop.specs.Driving.{Tells}
 use Rattle.session_loop.proofs.Joining.{went_by}
 use Rattle.session_loop.proofs.Passing.{told_one, told_passed, told_wanting}
 use Rattle.session_loop.proofs.driving.tell_moment.Goals as goal

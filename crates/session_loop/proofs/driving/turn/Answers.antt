@@ -1,5 +1,5 @@
-use Rattle.std.proofs.Common.{◌≡◌, ℕ, List, map, refl}
-use Rattle.session_loop.specs.Driving.{View, left_of, over}
+use Rattle.std.proofs.Common.{refl}
+use Rattle.session_loop.specs.Driving.{left_of, over}
 use Rattle.session_loop.proofs.Joining.{nothing_passed}
 use Rattle.session_loop.proofs.Wanting.{over_future}
 use Rattle.session_loop.proofs.driving.turn.Goals as goal
