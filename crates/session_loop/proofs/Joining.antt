@@ -7,7 +7,7 @@ use Rattle.std.proofs.KnownBytes.{Consumes-nil, Consumes-trans, Appends-nil, App
 use Rattle.session_loop.specs.Cutting.{Request, Ending, Cut}
 use Rattle.session_loop.specs.Courses.{Course, ends, Event, wrote, told, made, counted, PassesAll, course, text_of, moments_of}
 use Rattle.session_loop.specs.Documents.{Kept}
-use Rattle.session_loop.specs.Driving.{View, TellsEach, Tells, Happens, Passed, Served, left_of, Drives, served, read_failed, write_failed, no_memory, Went, Stops, over, read_fault, write_fault, wanting}
+use Rattle.session_loop.specs.Driving.{View, TellsEach, Tells, Happens, Passed, Served, Drives, read_failed, write_failed, no_memory, Went, Stops, over, read_fault, write_fault, wanting, came_to_end, closed, at_end}
 use Rattle.session_loop.specs.Sessions.{Machine, IsFresh, Serves, Future, FutureAt, Leads, Tracks, LeadsBy, TracksBy}
 use Rattle.session_loop.specs.declared.stage.Stage.{Stage}
 use Rattle.session_loop.specs.declared.want.SessionEnd.{SessionEnd}
@@ -121,12 +121,17 @@ module _ (names : List (List ℕ)) (fresh m : Machine) (is : IsFresh names fresh
   so_far more requests ending cut =
       went.tracks more (course names 10_000 requests ending) (futures (bytes ++ more) (course names 10_000 requests ending) (requests, ending, cut, refl))
 
+  still_passed : (u v w : View) → Passed u v bytes events → Passed v w [] [] → Passed u w bytes events
+  still_passed u v w passed still =
+      subst (λ (l : List ℕ). Passed u w l events) (append-nil bytes) (subst (λ (e : List Event). Passed u w (bytes ++ []) e) (append-nil events) (passed_on u v w bytes [] events [] passed still))
+
   pub drives : (u v w : View) (end : SessionEnd) → Passed u v bytes events → Stops v w m end → Drives names u w end
+  drives u v w _ passed (at_end end still none_left source future) =
+      came_to_end end bytes events (still_passed u v w passed still) none_left source
+      (subst (λ (l : List ℕ). Served names l events end) (append-nil bytes) (end_served [] end future))
   drives u v w _ passed (over end still future) =
-      let all : Served names (bytes ++ left_of w.left) events end = end_served (left_of w.left) end future in
-      served end bytes events
-      (subst (λ (l : List ℕ). Passed u w l events) (append-nil bytes) (subst (λ (e : List Event). Passed u w (bytes ++ []) e) (append-nil events) (passed_on u v w bytes [] events [] passed still)))
-      all (served_end names (bytes ++ left_of w.left) events end all)
+      closed end bytes events (still_passed u v w passed still) (served_end names (bytes ++ []) events end (end_served [] end (future [])))
+      (λ more. end_served more end (future more))
   drives u v w _ passed (read_fault end fails source future) =
       read_failed v end bytes events passed fails source
       (subst (λ (l : List ℕ). Served names l events end) (append-nil bytes) (end_served [] end future))

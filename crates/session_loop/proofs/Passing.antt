@@ -13,7 +13,7 @@ use Rattle.doc_model.specs.declared.call.Call.{Call}
 use Rattle.doc_model.specs.declared.reply.Submitted.{Submitted}
 use Rattle.session_loop.specs.Courses.{ends, wrote, told, made, counted}
 use Rattle.session_loop.specs.Documents.{Kept, IsSubmitted, IsLone}
-use Rattle.session_loop.specs.Driving.{View, Tells, Passed, left_of, Stops, over, read_fault, write_fault, wanting}
+use Rattle.session_loop.specs.Driving.{View, Tells, Passed, Stops, read_fault, write_fault, wanting, at_end, IsSourceEnd}
 use Rattle.session_loop.specs.Sessions.{Machine, Future, Closes, WantsIs, IsSettled, IsCallOf}
 use Rattle.session_loop.specs.declared.stage.Stage.{Stage}
 use Rattle.session_loop.specs.declared.want.SessionEnd.{SessionEnd}
@@ -62,20 +62,21 @@ module _ (v : View) where
 
 -- ---- the end of the run
 
-no_left : (left : Option (List ℕ)) → IsAtEnd left → left_of left ≡ []
-no_left None end = refl
-no_left (Some bytes) end = end
-
 same_end : (a b : SessionEnd) → ◌≡◌ {A = Want} (End a) (End b) → a ≡ b
 same_end a b e = cc
 
+same_ends : (a b : SessionEnd) → ends a ≡ ends b → a ≡ b
+same_ends a b e = cc
+
 -- the source has ended, and the session with it
 pub source_over : (v : View) (old left : Option (List ℕ)) (before faults : ℕ) (m n : Machine) (end : SessionEnd) → v.left ≡ old → v.read_faults ≡ before
-    → Consumes old left [] → IsAtEnd left → faults ≡ before → Closes m n → WantsIs n.stage (End end) → Stops v (record v { left = left; read_faults = faults }) m end
-source_over v old left before faults m n end left_is before_is consumes at_end same closes wants =
-    let is : end ≡ closes.end = same_end end closes.end (subst (λ (st : Stage). WantsIs st (End end)) closes.stage wants) in
-    over end (read_passed v left faults [] (subst (λ (l : Option (List ℕ)). Consumes l left []) (sym left_is) consumes) (same ∙ sym before_is))
-    (subst (λ (l : List ℕ). Future m l (ends end)) (sym (no_left left at_end)) (subst (λ (e : SessionEnd). Future m [] (ends e)) (sym is) closes.leads))
+    → Consumes old left [] → IsAtEnd left → faults ≡ before → Closes m n → WantsIs n.stage (End end)
+    → IsSettled m → WantsIs m.stage Bytes → Stops v (record v { left = left; read_faults = faults }) m end
+source_over v old left before faults m n end left_is before_is consumes none_left same closes over_now settled wants =
+    let is : end ≡ closes.end = same_end end closes.end (subst (λ (st : Stage). WantsIs st (End end)) closes.stage over_now) in
+    let e = bytes_end m settled wants in
+    at_end end (read_passed v left faults [] (subst (λ (l : Option (List ℕ)). Consumes l left []) (sym left_is) consumes) (same ∙ sym before_is))
+    none_left (subst IsSourceEnd (same_ends e.0 closes.end (closes.tracks (ends e.0) e.2) ∙ sym is) e.1) (subst (λ (x : SessionEnd). Future m [] (ends x)) (sym is) closes.leads)
 
 pub source_failed : (v : View) (old left : Option (List ℕ)) (before faults : ℕ) (m : Machine) → v.left ≡ old → v.read_faults ≡ before
     → Keeps old left → Rose before faults → IsSettled m → WantsIs m.stage Bytes → Stops v (record v { left = left; read_faults = faults }) m ReadFault

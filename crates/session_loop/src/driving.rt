@@ -62,7 +62,8 @@ fn tell_moment<T: Clock>(session: &mut Session, clock: &mut T) -> Option<Session
         → Turned v (record v { told = T.told clock.new }) session.old session.new result }
     ensures goes { GoesOn session.old session.new result }
 {
-    match session.tell(clock.moment()) {
+    let moment = clock.moment();
+    match session.tell(moment) {
         Ok(()) => None,
         Err(_) => Some(SessionEnd::NoMemory),
     }

@@ -46,4 +46,4 @@ pub returns-clause-drives : goal.returns-clause-drives
 returns-clause-drives g c =
     let p = c.going.invariant.passed in
     drives c.args.session.now.names c.args.session.now c.going.session c.requires.fresh p.0 p.1 p.3 _ _ _ c.end_of.result p.2
-    (over c.end_of.result (nothing_passed _) (over_future c.going.session _ c.end_of.result c.end_of.ensures))
+    (over c.end_of.result (nothing_passed _) (λ rest. over_future c.going.session rest c.end_of.result c.end_of.ensures))

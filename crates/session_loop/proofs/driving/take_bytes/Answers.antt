@@ -6,11 +6,11 @@ use Rattle.session_loop.proofs.driving.take_bytes.Goals as goal
 
 pub returns-in-Ok-eq0-clause-turned : goal.returns-in-Ok-eq0-clause-turned
 returns-in-Ok-eq0-clause-turned g c = λ v left faults.
-    let at_end : IsAtEnd (g.S.Source.left c.read.new.self) = search rules in
+    let none_left : IsAtEnd (g.S.Source.left c.read.new.self) = search rules in
     source_over v (g.S.Source.left c.args.source.now) (g.S.Source.left c.read.new.self) (g.S.Source.faults c.args.source.now) (g.S.Source.faults c.read.new.self)
     c.args.session.now c.feed_end.new.self c.end_of.result left faults
     (search rules)
-    at_end c.in-Ok-eq0.ensures.cause.kept c.feed_end.ensures.closes c.end_of.ensures
+    none_left c.in-Ok-eq0.ensures.cause.kept c.feed_end.ensures.closes c.end_of.ensures c.requires.settled c.requires.want
 
 pub returns-in-Ok-feed-clause-turned : goal.returns-in-Ok-feed-clause-turned
 returns-in-Ok-feed-clause-turned g c = λ v left faults.

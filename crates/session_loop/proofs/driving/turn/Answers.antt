@@ -1,5 +1,5 @@
 use Rattle.std.proofs.Common.{refl}
-use Rattle.session_loop.specs.Driving.{left_of, over}
+use Rattle.session_loop.specs.Driving.{over}
 use Rattle.session_loop.proofs.Joining.{nothing_passed}
 use Rattle.session_loop.proofs.Wanting.{over_future}
 use Rattle.session_loop.proofs.driving.turn.Goals as goal
@@ -20,4 +20,4 @@ pub returns-in-Write-clause-turned : goal.returns-in-Write-clause-turned
 returns-in-Write-clause-turned g c = c.write_output.ensures.turned _ refl refl
 
 pub returns-in-End-clause-turned : goal.returns-in-End-clause-turned
-returns-in-End-clause-turned g c = over c.in-End.end (nothing_passed _) (over_future c.args.session.now (left_of (g.S.Source.left c.args.source.now)) c.in-End.end c.in-End.ensures)
+returns-in-End-clause-turned g c = over c.in-End.end (nothing_passed _) (λ rest. over_future c.args.session.now rest c.in-End.end c.in-End.ensures)
