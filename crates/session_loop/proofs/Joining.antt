@@ -1,17 +1,17 @@
 -- How turns join, and what they come to.
 use Rattle.std.proofs.Common.{◌≡◌, ℕ, List, [], ◌∷◌, ◌++◌, drop, Option, Some, None, refl, sym, ap, subst, ◌∙◌, append_assoc}
-use Rattle.std.specs.Prelude.{⊤, set, slice_get}
+use Rattle.std.specs.Prelude.{set}
 use Rattle.std.proofs.lemmas.List.{append-nil}
 use Rattle.std.specs.Io.KnownBytes.{Appends}
 use Rattle.std.proofs.KnownBytes.{Consumes-nil, Consumes-trans, Appends-nil, Appends-trans}
 use Rattle.session_loop.specs.Cutting.{Request, Ending, Cut}
-use Rattle.session_loop.specs.Courses.{Course, ends, Event, wrote, told, made, counted, Passes, PassesAll, course, text_of, moments_of}
-use Rattle.session_loop.specs.Documents.{Kept, IsSubmitted}
-use Rattle.session_loop.specs.Driving.{View, TellsEach, Tells, Happens, Passed, Served, ServedSoFar, IsWriting, left_of, Drives, served, read_failed, write_failed, no_memory, Went, Stops, over, read_fault, write_fault, wanting}
+use Rattle.session_loop.specs.Courses.{Course, ends, Event, wrote, told, made, counted, PassesAll, course, text_of, moments_of}
+use Rattle.session_loop.specs.Documents.{Kept}
+use Rattle.session_loop.specs.Driving.{View, TellsEach, Tells, Happens, Passed, Served, Drives, read_failed, write_failed, no_memory, Went, Stops, over, read_fault, write_fault, wanting, came_to_end, closed, at_end}
 use Rattle.session_loop.specs.Sessions.{Machine, IsFresh, Serves, Future, FutureAt, Leads, Tracks, LeadsBy, TracksBy}
 use Rattle.session_loop.specs.declared.stage.Stage.{Stage}
-use Rattle.session_loop.specs.declared.stage.Stage.TheVariants.{Over}
 use Rattle.session_loop.specs.declared.want.SessionEnd.{SessionEnd}
+use Rattle.session_loop.proofs.CourseEnds.{served_end}
 
 -- ---- what can come
 
@@ -72,7 +72,7 @@ tells_join a b (Some x) None z first second = absurd first
 tells_join a b (Some x) (Some y) None first second = absurd second
 tells_join a b (Some x) (Some y) (Some z) first second = tells_each_join a b x y z first second
 
-tells_nothing : (x : Option (List ℕ)) → Tells x x []
+pub tells_nothing : (x : Option (List ℕ)) → Tells x x []
 tells_nothing None = tt
 tells_nothing (Some x) = refl
 
@@ -80,7 +80,7 @@ happens_join : (e f : List Event) (x y z : List Kept) → Happens x e y → Happ
 happens_join [] f x y z first second = subst (λ (l : List Kept). Happens l f z) first second
 happens_join (wrote text ∷ e) f x y z first second = happens_join e f x y z first second
 happens_join (told moment ∷ e) f x y z first second = happens_join e f x y z first second
-happens_join (made doc call submitted ∷ e) f x y z (k, n, at, is, first) second = (k, n, at, is, happens_join e f (set x doc n) y z first second)
+happens_join (made doc call submitted ∷ e) f x y z (k, n, at, lone, is, first) second = (k, n, at, lone, is, happens_join e f (set x doc n) y z first second)
 happens_join (counted doc count ∷ e) f x y z (k, at, is, first) second = (k, at, is, happens_join e f x y z first second)
 
 pub passed_on : (u v w : View) (a b : List ℕ) (e f : List Event) → Passed u v a e → Passed v w b f → Passed u w (a ++ b) (e ++ f)
@@ -104,7 +104,11 @@ module _ (names : List (List ℕ)) (fresh m : Machine) (is : IsFresh names fresh
   serves l c future = rw (is.names_are, is.left, is.stage, is.input) at future
 
   futures : (l : List ℕ) (c : Course) → Serves names 10_000 l c → Future fresh l c
-  futures l c h = rw (← is.names_are, ← is.left, ← is.stage, ← is.input) at h
+  futures l c h =
+      subst (λ (st : Stage). FutureAt st fresh l c) (sym is.stage)
+      (subst (λ (input : List ℕ). Serves fresh.names fresh.left (input ++ l) c) (sym is.input)
+      (subst (λ (left : ℕ). Serves fresh.names left l c) (sym is.left)
+      (subst (λ (ns : List (List ℕ)). Serves ns 10_000 l c) (sym is.names_are) h)))
 
   end_served : (rest : List ℕ) (end : SessionEnd) → Future m rest (ends end) → Served names (bytes ++ rest) events end
   end_served rest end future =
@@ -117,11 +121,17 @@ module _ (names : List (List ℕ)) (fresh m : Machine) (is : IsFresh names fresh
   so_far more requests ending cut =
       went.tracks more (course names 10_000 requests ending) (futures (bytes ++ more) (course names 10_000 requests ending) (requests, ending, cut, refl))
 
+  still_passed : (u v w : View) → Passed u v bytes events → Passed v w [] [] → Passed u w bytes events
+  still_passed u v w passed still =
+      subst (λ (l : List ℕ). Passed u w l events) (append-nil bytes) (subst (λ (e : List Event). Passed u w (bytes ++ []) e) (append-nil events) (passed_on u v w bytes [] events [] passed still))
+
   pub drives : (u v w : View) (end : SessionEnd) → Passed u v bytes events → Stops v w m end → Drives names u w end
+  drives u v w _ passed (at_end end still none_left source future) =
+      came_to_end end bytes events (still_passed u v w passed still) none_left source
+      (subst (λ (l : List ℕ). Served names l events end) (append-nil bytes) (end_served [] end future))
   drives u v w _ passed (over end still future) =
-      served end bytes events
-      (subst (λ (l : List ℕ). Passed u w l events) (append-nil bytes) (subst (λ (e : List Event). Passed u w (bytes ++ []) e) (append-nil events) (passed_on u v w bytes [] events [] passed still)))
-      (end_served (left_of w.left) end future)
+      closed end bytes events (still_passed u v w passed still) (served_end names (bytes ++ []) events end (end_served [] end (future [])))
+      (λ more. end_served more end (future more))
   drives u v w _ passed (read_fault end fails source future) =
       read_failed v end bytes events passed fails source
       (subst (λ (l : List ℕ). Served names l events end) (append-nil bytes) (end_served [] end future))

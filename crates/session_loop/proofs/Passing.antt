@@ -1,26 +1,27 @@
 -- What one turn does outside.
-use Rattle.std.proofs.Common.{◌≡◌, ℕ, List, [], ◌∷◌, ◌++◌, drop, length, Option, Some, None, refl, sym, ap, subst, ◌∙◌}
+use Rattle.std.proofs.Common.{◌≡◌, ◌<◌, ℕ, List, [], ◌∷◌, drop, length, map, Option, Some, None, refl, sym, ap, subst, ◌∙◌}
 use Rattle.std.specs.Prelude.{IfSome, set, slice_get, slice_index}
+use Rattle.std.proofs.Math.ListN.{get_or}
+use Rattle.std.proofs.lemmas.Option.{slice_get-map, slice_get-get_or}
 use Rattle.std.specs.Option.{option_map}
 use Rattle.std.specs.Io.KnownBytes.{Appends, Consumes, IsAtEnd, Keeps}
 use Rattle.host_edge.specs.Causes.{Rose}
 use Rattle.host_edge.specs.Streams.{AppendsFront}
-use Rattle.std.proofs.lemmas.List.{append-nil}
+use Rattle.std.proofs.lemmas.List.{append-nil, map-set}
 use Rattle.std.proofs.KnownBytes.{Consumes-nil, Appends-nil}
 use Rattle.doc_model.specs.declared.call.Call.{Call}
 use Rattle.doc_model.specs.declared.reply.Submitted.{Submitted}
-use Rattle.session_loop.specs.Courses.{Course, ends, wrote, told, made, counted}
-use Rattle.session_loop.specs.Documents.{Kept, IsSubmitted}
-use Rattle.session_loop.specs.Driving.{View, Tells, Passed, FailsToRead, FailsToWrite, left_of, Stops, over, read_fault, write_fault, wanting}
+use Rattle.session_loop.specs.Courses.{ends, wrote, told, made, counted}
+use Rattle.session_loop.specs.Documents.{Kept, IsSubmitted, IsLone}
+use Rattle.session_loop.specs.Driving.{View, Tells, Passed, Stops, read_fault, write_fault, wanting, at_end, IsSourceEnd}
 use Rattle.session_loop.specs.Sessions.{Machine, Future, Closes, WantsIs, IsSettled, IsCallOf}
 use Rattle.session_loop.specs.declared.stage.Stage.{Stage}
-use Rattle.session_loop.specs.declared.stage.Stage.TheVariants.{Over}
 use Rattle.session_loop.specs.declared.want.SessionEnd.{SessionEnd}
 use Rattle.session_loop.specs.declared.want.SessionEnd.TheVariants.{ReadFault, WriteFault, NoMemory}
 use Rattle.session_loop.specs.declared.want.Want.{Want}
-use Rattle.session_loop.specs.declared.want.Want.TheVariants.{Bytes, Moment, Submit, Write, End}
+use Rattle.session_loop.specs.declared.want.Want.TheVariants.{Bytes, Moment, Submit, Front, Write, End}
 use Rattle.session_loop.proofs.Joining.{tells_nothing}
-use Rattle.session_loop.proofs.Wanting.{writing, written_passes, told_passes, made_passes, bytes_end}
+use Rattle.session_loop.proofs.Wanting.{writing, written_passes, told_passes, made_passes, counted_passes, bytes_end}
 
 module _ (v : View) where
   pub read_passed : (left : Option (List ℕ)) (faults : ℕ) (bytes : List ℕ) → Consumes v.left left bytes → faults ≡ v.read_faults
@@ -37,31 +38,45 @@ module _ (v : View) where
   written_passed held faults text appends same =
       record { left = Consumes-nil v.left; read_faults = refl; held = subst (Appends v.held held) (sym (append-nil text)) appends; write_faults = same; told = tells_nothing v.told; docs = refl }
 
-  pub made_passed : (docs : List Kept) (doc : ℕ) (call : Call) (submitted : Submitted) (k n : Kept) → slice_get v.docs doc ≡ Some k → IsSubmitted k call submitted n → docs ≡ set v.docs doc n
+  pub made_passed : (docs : List Kept) (doc : ℕ) (call : Call) (submitted : Submitted) (k n : Kept) → slice_get v.docs doc ≡ Some k → IsLone submitted → IsSubmitted k call submitted n → docs ≡ set v.docs doc n
       → Passed v (record v { docs = docs }) [] (made doc call submitted ∷ [])
-  made_passed docs doc call submitted k n at is after =
-      record { left = Consumes-nil v.left; read_faults = refl; held = Appends-nil v.held; write_faults = refl; told = tells_nothing v.told; docs = (k, n, at, is, after) }
+  made_passed docs doc call submitted k n at lone is after =
+      record { left = Consumes-nil v.left; read_faults = refl; held = Appends-nil v.held; write_faults = refl; told = tells_nothing v.told; docs = (k, n, at, lone, is, after) }
+
+  pub made_of : {X : Type 0} (see : X → Kept) (docs : List X) (doc : ℕ) (d n : X) (call : Call) (submitted : Submitted) → v.docs ≡ map see docs → doc < length docs → IsLone submitted
+      → IsSubmitted (see (get_or docs doc d)) call submitted (see n) → Passed v (record v { docs = map see (set docs doc n) }) [] (made doc call submitted ∷ [])
+  made_of see docs doc d n call submitted docs_are within lone is =
+      made_passed (map see (set docs doc n)) doc call submitted (see (get_or docs doc d)) (see n)
+      (ap (λ (l : List Kept). slice_get l doc) docs_are ∙ slice_get-map see docs doc ∙ ap (option_map see) (slice_get-get_or docs doc d within)) lone is
+      (map-set see docs doc n ∙ ap (λ (l : List Kept). set l doc (see n)) (sym docs_are))
 
   pub counted_passed : (doc count : ℕ) (k : Kept) → slice_get v.docs doc ≡ Some k → count ≡ k.front → Passed v v [] (counted doc count ∷ [])
   counted_passed doc count k at is =
       record { left = Consumes-nil v.left; read_faults = refl; held = Appends-nil v.held; write_faults = refl; told = tells_nothing v.told; docs = (k, at, is, refl) }
 
--- ---- the end of the run
+  pub counted_of : {X : Type 0} (see : X → Kept) (docs : List X) (doc count : ℕ) (d : X) → v.docs ≡ map see docs → doc < length docs → d ≡ get_or docs doc d → count ≡ (see d).front
+      → Passed v v [] (counted doc count ∷ [])
+  counted_of see docs doc count d docs_are within there is =
+      counted_passed doc count (see d)
+      (ap (λ (l : List Kept). slice_get l doc) docs_are ∙ slice_get-map see docs doc ∙ ap (option_map see) (slice_get-get_or docs doc d within ∙ ap Some (sym there))) is
 
-no_left : (left : Option (List ℕ)) → IsAtEnd left → left_of left ≡ []
-no_left None end = refl
-no_left (Some bytes) end = end
+-- ---- the end of the run
 
 same_end : (a b : SessionEnd) → ◌≡◌ {A = Want} (End a) (End b) → a ≡ b
 same_end a b e = cc
 
+same_ends : (a b : SessionEnd) → ends a ≡ ends b → a ≡ b
+same_ends a b e = cc
+
 -- the source has ended, and the session with it
 pub source_over : (v : View) (old left : Option (List ℕ)) (before faults : ℕ) (m n : Machine) (end : SessionEnd) → v.left ≡ old → v.read_faults ≡ before
-    → Consumes old left [] → IsAtEnd left → faults ≡ before → Closes m n → WantsIs n.stage (End end) → Stops v (record v { left = left; read_faults = faults }) m end
-source_over v old left before faults m n end left_is before_is consumes at_end same closes wants =
-    let is : end ≡ closes.end = same_end end closes.end (subst (λ (st : Stage). WantsIs st (End end)) closes.stage wants) in
-    over end (read_passed v left faults [] (subst (λ (l : Option (List ℕ)). Consumes l left []) (sym left_is) consumes) (same ∙ sym before_is))
-    (subst (λ (l : List ℕ). Future m l (ends end)) (sym (no_left left at_end)) (subst (λ (e : SessionEnd). Future m [] (ends e)) (sym is) closes.leads))
+    → Consumes old left [] → IsAtEnd left → faults ≡ before → Closes m n → WantsIs n.stage (End end)
+    → IsSettled m → WantsIs m.stage Bytes → Stops v (record v { left = left; read_faults = faults }) m end
+source_over v old left before faults m n end left_is before_is consumes none_left same closes over_now settled wants =
+    let is : end ≡ closes.end = same_end end closes.end (subst (λ (st : Stage). WantsIs st (End end)) closes.stage over_now) in
+    let e = bytes_end m settled wants in
+    at_end end (read_passed v left faults [] (subst (λ (l : Option (List ℕ)). Consumes l left []) (sym left_is) consumes) (same ∙ sym before_is))
+    none_left (subst IsSourceEnd (same_ends e.0 closes.end (closes.tracks (ends e.0) e.2) ∙ sym is) e.1) (subst (λ (x : SessionEnd). Future m [] (ends x)) (sym is) closes.leads)
 
 pub source_failed : (v : View) (old left : Option (List ℕ)) (before faults : ℕ) (m : Machine) → v.left ≡ old → v.read_faults ≡ before
     → Keeps old left → Rose before faults → IsSettled m → WantsIs m.stage Bytes → Stops v (record v { left = left; read_faults = faults }) m ReadFault
@@ -98,6 +113,10 @@ pub made_wanting : (v w : View) (m : Machine) (doc : ℕ) (call : Call) (submitt
     → Stops v w m NoMemory
 made_wanting v w m doc call submitted passed wants out =
     wanting [] (made doc call submitted ∷ []) passed (λ rest c future. let x = made_passes m doc call submitted wants out rest c future in (x.0, (x.0, x.1, refl)))
+
+pub counted_wanting : (v w : View) (m : Machine) (doc count : ℕ) → Passed v w [] (counted doc count ∷ []) → WantsIs m.stage (Front doc) → Stops v w m NoMemory
+counted_wanting v w m doc count passed wants =
+    wanting [] (counted doc count ∷ []) passed (λ rest c future. let x = counted_passes m doc count wants rest c future in (x.0, (x.0, x.1, refl)))
 
 -- ---- one moment
 

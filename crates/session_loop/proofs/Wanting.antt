@@ -1,19 +1,19 @@
 -- What is known of a session by what it wants.
-use Rattle.std.proofs.Common.{◌≡◌, ◌<◌, ℕ, List, [], ◌∷◌, ◌++◌, Bool, true, false, Option, Some, None, Result, Ok, Err, refl, sym, ap, subst, ◌∙◌, inl, inr, arith}
-use Rattle.std.specs.Prelude.{if◌then◌else◌}
+use Rattle.std.proofs.Common.{◌≡◌, ℕ, List, [], ◌++◌, Bool, true, false, Option, Some, None, Result, Ok, Err, refl, sym, ap, subst, inl, inr, arith}
+use Rattle.std.specs.Prelude.{decimal, if◌then◌else◌}
 use Rattle.std.specs.List.{list_any}
 use Rattle.doc_model.specs.declared.call.Call.{Call}
 use Rattle.doc_model.specs.declared.reply.Submitted.{Submitted}
 use Rattle.http_head.specs.Heads.{is_text}
-use Rattle.http_head.specs.declared.answer.Media.TheVariants.{Xml}
+use Rattle.http_head.specs.declared.answer.Media.TheVariants.{Xml, Plain}
 use Rattle.collection_run.specs.Processes.{Process, says, calls, Asks}
 use Rattle.collection_run.specs.Progress.{process_of}
 use Rattle.collection_run.specs.declared.progress.Progress.{Progress}
 use Rattle.session_loop.specs.Cutting.{Wish, wish_of, is_last}
-use Rattle.session_loop.specs.Courses.{Course, ends, tells, makes, refusing, granted, run, answered, file_answered, Event, wrote, told, made, Passes}
+use Rattle.session_loop.specs.Courses.{Course, ends, refusing, granted, run, answered, file_answered, wrote, told, made, counted, Passes}
 use Rattle.session_loop.specs.Driving.{IsWriting, IsSourceEnd}
 use Rattle.session_loop.specs.Rooms.{RoomAt, RunRoom, HasRoom, later}
-use Rattle.session_loop.specs.Sessions.{Machine, Judged, RunServes, FileServes, Future, FutureAt, WantsIs, IsOutOf, CallAt, IsCallOf, SettledAt, IsSettled, EndIs}
+use Rattle.session_loop.specs.Sessions.{Machine, Judged, RunServes, FileServes, Future, FutureAt, WantsIs, IsOutOf, CallAt, IsCallOf, SettledAt, IsSettled}
 use Rattle.session_loop.specs.declared.want.SessionEnd.{SessionEnd}
 use Rattle.session_loop.specs.declared.want.SessionEnd.TheVariants.{Ended, CutOff}
 use Rattle.session_loop.specs.declared.want.Want.{Want}
@@ -106,6 +106,26 @@ made_at (Over end) m doc call submitted rest c wants out future = absurd out
 pub made_passes : (m : Machine) (doc : ℕ) (call : Call) (submitted : Submitted) → WantsIs m.stage (Submit doc) → IsCallOf m call
     → (rest : List ℕ) (c : Course) → Future m rest c → (d : Course) × Passes c (made doc call submitted) d
 made_passes m doc call submitted wants out rest c future = made_at m.stage m doc call submitted rest c wants out future
+
+-- ---- a count
+
+same_front : (doc d : ℕ) → ◌≡◌ {A = Want} (Front doc) (Front d) → doc ≡ d
+same_front doc d e = cc
+
+counted_at : (stage : Stage) (m : Machine) (doc count : ℕ) (rest : List ℕ) (c : Course) → WantsIs stage (Front doc) → FutureAt stage m rest c → (d : Course) × Passes c (counted doc count) d
+counted_at (Fronting d close) m doc count rest c wants (go_on, follows, is) =
+    let e : Course = answered Plain (decimal count) (is_last m.left close) go_on in
+    (e, subst (λ (k : Course). Passes k (counted doc count) e) (sym is) (same_front doc d wants, refl))
+counted_at Heading m doc count rest c wants future = absurd cc
+counted_at (InBody route close) m doc count rest c wants future = absurd cc
+counted_at (Timing route close) m doc count rest c wants future = absurd cc
+counted_at (Running d close) m doc count rest c wants future = absurd cc
+counted_at (Filing d close) m doc count rest c wants future = absurd cc
+counted_at (Writing next) m doc count rest c wants future = absurd cc
+counted_at (Over end) m doc count rest c wants future = absurd cc
+
+pub counted_passes : (m : Machine) (doc count : ℕ) → WantsIs m.stage (Front doc) → (rest : List ℕ) (c : Course) → Future m rest c → (d : Course) × Passes c (counted doc count) d
+counted_passes m doc count wants rest c future = counted_at m.stage m doc count rest c wants future
 
 -- ---- nothing
 

@@ -5,7 +5,7 @@ use Rattle.host_edge.specs.Causes.{Rose}
 use Rattle.host_edge.specs.Streams.{AppendsFront}
 use Rattle.session_loop.specs.Cutting.{Request, Ending, Cut}
 use Rattle.session_loop.specs.Courses.{Course, ends, writes, Event, wrote, told, made, counted, PassesAll, Takes, course, text_of, moments_of}
-use Rattle.session_loop.specs.Documents.{Kept, IsSubmitted}
+use Rattle.session_loop.specs.Documents.{Kept, IsSubmitted, IsLone}
 use Rattle.session_loop.specs.Rooms.{Falls}
 use Rattle.session_loop.specs.Safety.{IsSafe}
 use Rattle.session_loop.specs.Sessions.{Machine, Future, IsSettled}
@@ -31,13 +31,14 @@ Tells None left moments = Unit {0}
 Tells (Some due) None moments = ⊥
 Tells (Some due) (Some left) moments = TellsEach due moments left
 
--- these events, on these documents: each call is answered by its document as it then is, each count is its document's
+-- These events, on these documents: each call is answered by its document as it then is, or there is no memory for it and
+-- nothing has changed; each count is its document's.
 abbrev pub Happens : List Kept → List Event → List Kept → Type 0
 Happens docs [] after = after ≡ docs
 Happens docs (wrote text ∷ events) after = Happens docs events after
 Happens docs (told moment ∷ events) after = Happens docs events after
 Happens docs (made doc call submitted ∷ events) after =
-    (k n : Kept) × (slice_get docs doc ≡ Some k) × IsSubmitted k call submitted n × Happens (set docs doc n) events after
+    (k n : Kept) × (slice_get docs doc ≡ Some k) × IsLone submitted × IsSubmitted k call submitted n × Happens (set docs doc n) events after
 Happens docs (counted doc count ∷ events) after = (k : Kept) × (slice_get docs doc ≡ Some k) × (count ≡ k.front) × Happens docs events after
 
 -- from one time to another these bytes came and these events happened, and nothing else
@@ -83,16 +84,20 @@ IsWriting text c = (go_on : Course) × (c ≡ writes text go_on)
 abbrev pub IsSourceEnd : SessionEnd → Type 0
 IsSourceEnd end = (end ≡ Ended) ⊎ (end ≡ CutOff)
 
--- the bytes that a source has left, as far as it tells them
-abbrev pub left_of : Option (List ℕ) → List ℕ
-left_of None = []
-left_of (Some bytes) = bytes
+-- how a course can end: no fault of a source or a sink is an end of it
+abbrev pub IsCourseEnd : SessionEnd → Type 0
+IsCourseEnd ReadFault = ⊥
+IsCourseEnd WriteFault = ⊥
+IsCourseEnd end = Unit {0}
 
 -- What serving a connection did, by how it ended.
 pub data Drives (names : List (List ℕ)) (v w : View) : SessionEnd → Type 0 where
-  -- all that the source had left was served, up to its end or to an answer that closes
-  served : (end : SessionEnd) (bytes : List ℕ) (events : List Event) → Passed v w bytes events → Served names (bytes ++ left_of w.left) events end
-      → Drives names v w end
+  -- all that the source had left was served, up to its end
+  came_to_end : (end : SessionEnd) (bytes : List ℕ) (events : List Event) → Passed v w bytes events → IsAtEnd w.left → IsSourceEnd end
+      → Served names bytes events end → Drives names v w end
+  -- an answer closed the connection: whatever more there is, nothing of it is served
+  closed : (end : SessionEnd) (bytes : List ℕ) (events : List Event) → Passed v w bytes events → IsCourseEnd end
+      → ((more : List ℕ) → Served names (bytes ++ more) events end) → Drives names v w end
   -- the bytes that came before the fault were served as if they were all
   read_failed : (x : View) (end : SessionEnd) (bytes : List ℕ) (events : List Event) → Passed v x bytes events → FailsToRead x w → IsSourceEnd end
       → Served names bytes events end → Drives names v w ReadFault
@@ -111,7 +116,8 @@ pub record Went (m : Machine) (bytes : List ℕ) (events : List Event) (n : Mach
 
 -- how the last turn ends, from this session on
 pub data Stops (v w : View) (m : Machine) : SessionEnd → Type 0 where
-  over : (end : SessionEnd) → Passed v w [] [] → Future m (left_of w.left) (ends end) → Stops v w m end
+  at_end : (end : SessionEnd) → Passed v w [] [] → IsAtEnd w.left → IsSourceEnd end → Future m [] (ends end) → Stops v w m end
+  over : (end : SessionEnd) → Passed v w [] [] → ((rest : List ℕ) → Future m rest (ends end)) → Stops v w m end
   read_fault : (end : SessionEnd) → FailsToRead v w → IsSourceEnd end → Future m [] (ends end) → Stops v w m ReadFault
   write_fault : (text : List ℕ) → FailsToWrite v w text → ((rest : List ℕ) (c : Course) → Future m rest c → IsWriting text c) → Stops v w m WriteFault
   wanting : (bytes : List ℕ) (events : List Event) → Passed v w bytes events

@@ -2,9 +2,9 @@
 ghost use Rattle.std.specs.Prelude.{◌≡◌, ◌^◌, ◌<◌, All, length, map};
 ghost use Rattle.doc_model.specs.rules.Sound.{Sound};
 ghost use Rattle.session_loop.specs.Driving.{View, Drives, Turned, GoesOn};
-ghost use Rattle.session_loop.specs.Rooms.{HasRoom};
+ghost use Rattle.session_loop.specs.Rooms.{most_steps, HasRoom};
 ghost use Rattle.session_loop.specs.Safety.{IsSafe};
-ghost use Rattle.session_loop.specs.Sessions.{IsSettled, WantsIs};
+ghost use Rattle.session_loop.specs.Sessions.{IsFresh, IsSettled, WantsIs};
 
 use crate::documents::{CoreDoc, LoneDocs};
 use crate::session::Session;
@@ -62,7 +62,8 @@ fn tell_moment<T: Clock>(session: &mut Session, clock: &mut T) -> Option<Session
         → Turned v (record v { told = T.told clock.new }) session.old session.new result }
     ensures goes { GoesOn session.old session.new result }
 {
-    match session.tell(clock.moment()) {
+    let moment = clock.moment();
+    match session.tell(moment) {
         Ok(()) => None,
         Err(_) => Some(SessionEnd::NoMemory),
     }
@@ -159,9 +160,40 @@ fn turn<C: Core, S: Source, K: Sink, T: Clock>(
     }
 }
 
+// Turns of a session on which nothing has come yet, up to its end.
+fn serve<C: Core, S: Source, K: Sink, T: Clock>(
+    session: &mut Session,
+    docs: &mut [CoreDoc<C>],
+    source: &mut S,
+    out: &mut K,
+    clock: &mut T,
+) -> SessionEnd
+    requires fresh { IsFresh session.old.names session.old }
+    requires settled { IsSettled session.old }
+    requires safe { IsSafe session.old }
+    requires room { HasRoom session.old most_steps }
+    requires docs { length session.old.names ≡ length docs.old }
+    requires sound { All (λ d. Sound (C.doc d.core)) docs.old }
+    ensures drives { Drives session.old.names
+        (record { left = S.left source.old; read_faults = S.faults source.old; held = K.held out.old; write_faults = K.faults out.old; told = T.told clock.old; docs = map (λ d. record { doc = C.doc d.core; front = d.front }) docs.old })
+        (record { left = S.left source.new; read_faults = S.faults source.new; held = K.held out.new; write_faults = K.faults out.new; told = T.told clock.new; docs = map (λ d. record { doc = C.doc d.core; front = d.front }) docs.new })
+        result }
+    ensures docs { length docs.new ≡ length docs.old }
+    ensures sound { All (λ d. Sound (C.doc d.core)) docs.new }
+{
+    let mut room = MOST_STEPS;
+    'going: while room > 0 {
+        if let Some(end) = turn(session, docs, source, out, clock) {
+            return end;
+        }
+        room -= 1;
+    }
+    end_of(session)
+}
+
 /// Serves the connection of the source: its requests one after the other, over the documents of the names, up to its end
 /// or to an answer that closes. It says how it ended. `ReadFault` and `WriteFault` come only where the source's or the
-/// sink's count of faults rose.
+/// sink's count of faults rose; where none rose, all was served up to the end that the bytes have, or there was no memory.
 pub fn drive_lone<C: Core, S: Source, K: Sink, T: Clock>(
     alloc: Global,
     docs: &mut LoneDocs<C>,
@@ -176,17 +208,11 @@ pub fn drive_lone<C: Core, S: Source, K: Sink, T: Clock>(
         (record { left = S.left source.old; read_faults = S.faults source.old; held = K.held out.old; write_faults = K.faults out.old; told = T.told clock.old; docs = map (λ d. record { doc = C.doc d.core; front = d.front }) docs.old.docs.items })
         (record { left = S.left source.new; read_faults = S.faults source.new; held = K.held out.new; write_faults = K.faults out.new; told = T.told clock.new; docs = map (λ d. record { doc = C.doc d.core; front = d.front }) docs.new.docs.items })
         result }
+    ensures docs { length docs.new.names ≡ length docs.new.docs.items }
     ensures sound { All (λ d. Sound (C.doc d.core)) docs.new.docs.items }
 {
     let Ok(mut session) = Session::new(alloc, &docs.names) else {
         return SessionEnd::NoMemory;
     };
-    let mut room = MOST_STEPS;
-    'going: while room > 0 {
-        if let Some(end) = turn(&mut session, docs.docs.as_mut_slice(), source, out, clock) {
-            return end;
-        }
-        room -= 1;
-    }
-    end_of(&session)
+    serve(&mut session, docs.docs.as_mut_slice(), source, out, clock)
 }

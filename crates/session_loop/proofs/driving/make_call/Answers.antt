@@ -1,16 +1,9 @@
-use Rattle.std.proofs.Common.{◌≡◌, ◌<◌, ℕ, List, [], ◌∷◌, length, map, Some, sym, ap, subst, ◌∙◌}
-use Rattle.std.specs.Prelude.{slice_get, set}
-use Rattle.std.specs.Option.{option_map}
-use Rattle.std.proofs.Math.ListN.{get_or}
-use Rattle.std.proofs.lemmas.List.{map-set}
+use Rattle.std.proofs.Common.{◌<◌, ℕ, [], ◌∷◌, length, subst}
 use Rattle.std.proofs.lemmas.List.Elements.{All-set}
-use Rattle.std.proofs.lemmas.Option.{slice_get-map, slice_get-get_or}
 use Rattle.doc_model.specs.rules.Sound.{Sound}
 use Rattle.session_loop.specs.Courses.{made}
-use Rattle.session_loop.specs.Documents.{Kept}
-use Rattle.session_loop.specs.Driving.{View, Passed}
 use Rattle.session_loop.proofs.Joining.{went_by}
-use Rattle.session_loop.proofs.Passing.{made_passed, made_wanting}
+use Rattle.session_loop.proofs.Passing.{made_of, made_wanting}
 use Rattle.session_loop.proofs.Safe.{valid_call, fits_of, sound_of, wanted_within}
 use Rattle.session_loop.proofs.driving.make_call.Goals as goal
 
@@ -41,10 +34,8 @@ returns-in-Ok-clause-turned g c = λ v docs.
     let within : c.args.doc < length c.args.docs.now = subst (λ (n : ℕ). c.args.doc < n) c.requires.docs (wanted_within c.args.session.now c.args.doc c.requires.want c.requires.settled c.requires.safe) in (
       [],
       made c.args.doc c.call.result.now c.submit-submitted.result ∷ [],
-      made_passed v _ c.args.doc c.call.result.now c.submit-submitted.result _ _
-      (subst (λ (l : List Kept). slice_get l c.args.doc ≡ _) (sym docs) (slice_get-map _ c.args.docs.now c.args.doc ∙ ap (option_map _) (slice_get-get_or c.args.docs.now c.args.doc c.index-docs-doc.result within)))
-      c.submit-submitted.ensures.submitted
-      (subst (λ (l : List Kept). _ ≡ set l c.args.doc _) (sym docs) (map-set _ c.args.docs.now c.args.doc c.submit-submitted.new.self)),
+      made_of v (λ d. record { doc = g.C.Core.doc d.core; front = d.front }) c.args.docs.now c.args.doc c.index-docs-doc.result c.submit-submitted.new.self c.call.result.now c.submit-submitted.result docs within
+      c.submit-submitted.ensures.lone c.submit-submitted.ensures.submitted,
       went_by c.args.session.now c.give.new.self (made c.args.doc c.call.result.now c.submit-submitted.result)
       (c.in-Ok.ensures.leads c.args.doc c.call.result.now c.requires.want c.call.ensures) (c.in-Ok.ensures.tracks c.args.doc c.call.result.now c.requires.want c.call.ensures),
     )
@@ -53,8 +44,6 @@ pub returns-in-Err-clause-turned : goal.returns-in-Err-clause-turned
 returns-in-Err-clause-turned g c = λ v docs.
     let within : c.args.doc < length c.args.docs.now = subst (λ (n : ℕ). c.args.doc < n) c.requires.docs (wanted_within c.args.session.now c.args.doc c.requires.want c.requires.settled c.requires.safe) in
     made_wanting v _ c.args.session.now c.args.doc c.call.result.now c.submit-submitted.result
-    (made_passed v _ c.args.doc c.call.result.now c.submit-submitted.result _ _
-    (subst (λ (l : List Kept). slice_get l c.args.doc ≡ _) (sym docs) (slice_get-map _ c.args.docs.now c.args.doc ∙ ap (option_map _) (slice_get-get_or c.args.docs.now c.args.doc c.index-docs-doc.result within)))
-    c.submit-submitted.ensures.submitted
-    (subst (λ (l : List Kept). _ ≡ set l c.args.doc _) (sym docs) (map-set _ c.args.docs.now c.args.doc c.submit-submitted.new.self)))
+    (made_of v (λ d. record { doc = g.C.Core.doc d.core; front = d.front }) c.args.docs.now c.args.doc c.index-docs-doc.result c.submit-submitted.new.self c.call.result.now c.submit-submitted.result docs within
+    c.submit-submitted.ensures.lone c.submit-submitted.ensures.submitted)
     c.requires.want c.call.ensures

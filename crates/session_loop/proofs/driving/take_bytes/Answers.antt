@@ -1,17 +1,16 @@
-use Rattle.std.proofs.Common.{rules, ◌≡◌, ℕ, List, [], take, Option, sym, subst, ◌∙◌}
+use Rattle.std.proofs.Common.{rules, ℕ, List, [], take, Option, sym, subst, ◌∙◌}
 use Rattle.std.specs.Io.KnownBytes.{Consumes, IsAtEnd}
-use Rattle.session_loop.specs.Driving.{View}
 use Rattle.session_loop.proofs.Joining.{went_over}
 use Rattle.session_loop.proofs.Passing.{read_passed, source_over, source_failed, bytes_wanting}
 use Rattle.session_loop.proofs.driving.take_bytes.Goals as goal
 
 pub returns-in-Ok-eq0-clause-turned : goal.returns-in-Ok-eq0-clause-turned
 returns-in-Ok-eq0-clause-turned g c = λ v left faults.
-    let at_end : IsAtEnd (g.S.Source.left c.read.new.self) = search rules in
+    let none_left : IsAtEnd (g.S.Source.left c.read.new.self) = search rules in
     source_over v (g.S.Source.left c.args.source.now) (g.S.Source.left c.read.new.self) (g.S.Source.faults c.args.source.now) (g.S.Source.faults c.read.new.self)
     c.args.session.now c.feed_end.new.self c.end_of.result left faults
-    (subst (λ (n : ℕ). Consumes (g.S.Source.left c.args.source.now) (g.S.Source.left c.read.new.self) (take n c.read.new.into)) c.in-Ok-eq0.field-0-is c.in-Ok-eq0.ensures.bytes.0)
-    at_end c.in-Ok-eq0.ensures.cause.kept c.feed_end.ensures.closes c.end_of.ensures
+    (search rules)
+    none_left c.in-Ok-eq0.ensures.cause.kept c.feed_end.ensures.closes c.end_of.ensures c.requires.settled c.requires.want
 
 pub returns-in-Ok-feed-clause-turned : goal.returns-in-Ok-feed-clause-turned
 returns-in-Ok-feed-clause-turned g c = λ v left faults.

@@ -1,7 +1,6 @@
-use Rattle.std.proofs.Common.{◌≡◌, ℕ, List, [], ◌∷◌, Option, sym, subst, ◌∙◌}
+use Rattle.std.proofs.Common.{ℕ, List, [], ◌∷◌, Option, sym, subst, ◌∙◌}
 use Rattle.std.specs.Io.KnownBytes.{Appends}
 use Rattle.session_loop.specs.Courses.{wrote}
-use Rattle.session_loop.specs.Driving.{View, Passed}
 use Rattle.session_loop.proofs.Joining.{went_by}
 use Rattle.session_loop.proofs.Passing.{written_passed, written_wanting, sink_failed}
 use Rattle.session_loop.proofs.driving.write_output.Goals as goal
