@@ -141,6 +141,6 @@ module _ (names : List (List ℕ)) (fresh m : Machine) (is : IsFresh names fresh
   drives u v w _ passed (wanting b e further goes) =
       no_memory (bytes ++ b) (events ++ e) (passed_on u v w bytes b events e passed further)
       (λ more requests ending cut.
-        let x = so_far (b ++ more) requests ending (subst (λ (l : List ℕ). Cut names 10_000 l requests ending) (append_assoc bytes b more) cut) in
-        let y = goes more x.0 x.1 in
-        (y.0, passes_join events e (course names 10_000 requests ending) x.0 y.0 x.2 y.1, tt))
+      let x = so_far (b ++ more) requests ending (subst (λ (l : List ℕ). Cut names 10_000 l requests ending) (append_assoc bytes b more) cut) in
+      let y = goes more x.0 x.1 in
+      (y.0, passes_join events e (course names 10_000 requests ending) x.0 y.0 x.2 y.1, tt))

@@ -112,11 +112,7 @@ fn make_call<C: Core>(
 }
 
 // Gives the session the count of a document.
-fn give_count<C: Core>(
-    session: &mut Session,
-    docs: &[CoreDoc<C>],
-    doc: usize,
-) -> Option<SessionEnd>
+fn give_count<C: Core>(session: &mut Session, docs: &[CoreDoc<C>], doc: usize) -> Option<SessionEnd>
     requires want { WantsIs session.old.stage (Want.Front doc) }
     requires safe { IsSafe session.old }
     requires docs { length session.old.names ≡ length docs.now }

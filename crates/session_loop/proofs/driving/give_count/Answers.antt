@@ -12,7 +12,7 @@ returns-in-Ok-clause-turned g c = λ v docs.
       counted c.args.doc c.front.result ∷ [],
       counted_of v (λ d. record { doc = g.C.Core.doc d.core; front = d.front }) c.args.docs.now c.args.doc c.front.result c.index-docs-doc.result docs within c.index-docs-doc.is c.front.ensures,
       went_by c.args.session.now c.give_front.new.self (counted c.args.doc c.front.result)
-      (c.in-Ok.ensures.leads c.args.doc c.requires.want) (c.in-Ok.ensures.tracks c.args.doc c.requires.want),
+          (c.in-Ok.ensures.leads c.args.doc c.requires.want) (c.in-Ok.ensures.tracks c.args.doc c.requires.want),
     )
 
 pub returns-in-Err-clause-turned : goal.returns-in-Err-clause-turned

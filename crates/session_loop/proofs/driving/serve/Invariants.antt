@@ -16,7 +16,7 @@ invariant-going g l = record {
   sound : All (λ d. Sound (g.C.Core.doc d.core)) l.docs;
   passed : (bytes : List ℕ) × (events : List Event)
       × Passed (record { left = g.S.Source.left l.initial.source; read_faults = g.S.Source.faults l.initial.source; held = g.K.Sink.held l.initial.out; write_faults = g.K.Sink.faults l.initial.out; told = g.T.Clock.told l.initial.clock; docs = map (λ d. record { doc = g.C.Core.doc d.core; front = d.front }) l.initial.docs })
-          (record { left = g.S.Source.left l.source; read_faults = g.S.Source.faults l.source; held = g.K.Sink.held l.out; write_faults = g.K.Sink.faults l.out; told = g.T.Clock.told l.clock; docs = map (λ d. record { doc = g.C.Core.doc d.core; front = d.front }) l.docs }) bytes events
+      (record { left = g.S.Source.left l.source; read_faults = g.S.Source.faults l.source; held = g.K.Sink.held l.out; write_faults = g.K.Sink.faults l.out; told = g.T.Clock.told l.clock; docs = map (λ d. record { doc = g.C.Core.doc d.core; front = d.front }) l.docs }) bytes events
       × Went l.initial.session bytes events l.session;
 }
 

@@ -18,7 +18,7 @@ returns-in-Ok-feed-clause-turned g c = λ v left faults.
       piece,
       [],
       read_passed v (g.S.Source.left c.read.new.self) (g.S.Source.faults c.read.new.self) piece
-      (subst (λ (l : Option (List ℕ)). Consumes l (g.S.Source.left c.read.new.self) piece) (sym left) c.in-Ok.ensures.bytes.0) (c.in-Ok.ensures.cause.kept ∙ sym faults),
+          (subst (λ (l : Option (List ℕ)). Consumes l (g.S.Source.left c.read.new.self) piece) (sym left) c.in-Ok.ensures.bytes.0) (c.in-Ok.ensures.cause.kept ∙ sym faults),
       went_over c.args.session.now c.feed.new.self piece c.in-Ok-feed.ensures.leads c.in-Ok-feed.ensures.tracks,
     )
 

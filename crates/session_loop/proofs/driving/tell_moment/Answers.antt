@@ -8,7 +8,7 @@ use Rattle.session_loop.proofs.driving.tell_moment.Goals as goal
 pub returns-in-Ok-clause-turned : goal.returns-in-Ok-clause-turned
 returns-in-Ok-clause-turned g c = λ v due.
     let tells : Tells v.told (g.T.Clock.told c.moment-moment.new.self) (c.moment-moment.result ∷ []) =
-        subst (λ (l : Option (List ℕ)). Tells l (g.T.Clock.told c.moment-moment.new.self) (c.moment-moment.result ∷ [])) (sym due) (told_one _ _ c.moment-moment.result c.moment-moment.ensures.first c.moment-moment.ensures.rest) in (
+    subst (λ (l : Option (List ℕ)). Tells l (g.T.Clock.told c.moment-moment.new.self) (c.moment-moment.result ∷ [])) (sym due) (told_one _ _ c.moment-moment.result c.moment-moment.ensures.first c.moment-moment.ensures.rest) in (
       [],
       told c.moment-moment.result ∷ [],
       told_passed v (g.T.Clock.told c.moment-moment.new.self) c.moment-moment.result tells,
@@ -18,6 +18,6 @@ returns-in-Ok-clause-turned g c = λ v due.
 pub returns-in-Err-clause-turned : goal.returns-in-Err-clause-turned
 returns-in-Err-clause-turned g c = λ v due.
     let tells : Tells v.told (g.T.Clock.told c.moment-moment.new.self) (c.moment-moment.result ∷ []) =
-        subst (λ (l : Option (List ℕ)). Tells l (g.T.Clock.told c.moment-moment.new.self) (c.moment-moment.result ∷ [])) (sym due) (told_one _ _ c.moment-moment.result c.moment-moment.ensures.first c.moment-moment.ensures.rest) in
+    subst (λ (l : Option (List ℕ)). Tells l (g.T.Clock.told c.moment-moment.new.self) (c.moment-moment.result ∷ [])) (sym due) (told_one _ _ c.moment-moment.result c.moment-moment.ensures.first c.moment-moment.ensures.rest) in
     told_wanting v (record v { told = g.T.Clock.told c.moment-moment.new.self }) c.args.session.now c.moment-moment.result
     (told_passed v (g.T.Clock.told c.moment-moment.new.self) c.moment-moment.result tells) c.requires.want

@@ -11,8 +11,8 @@ returns-in-Ok-wrote-clause-turned g c = λ v held faults.
       [],
       wrote m.output ∷ [],
       written_passed v (g.K.Sink.held c.write_all.new.out) (g.K.Sink.faults c.write_all.new.out) m.output
-      (subst (λ (l : Option (List ℕ)). Appends l (g.K.Sink.held c.write_all.new.out) m.output) (sym held)
-      (subst (Appends (g.K.Sink.held c.args.out.now) (g.K.Sink.held c.write_all.new.out)) c.output.ensures c.in-Ok.ensures.all)) (c.in-Ok.ensures.cause.kept ∙ sym faults),
+          (subst (λ (l : Option (List ℕ)). Appends l (g.K.Sink.held c.write_all.new.out) m.output) (sym held)
+          (subst (Appends (g.K.Sink.held c.args.out.now) (g.K.Sink.held c.write_all.new.out)) c.output.ensures c.in-Ok.ensures.all)) (c.in-Ok.ensures.cause.kept ∙ sym faults),
       went_by m c.wrote.new.self (wrote m.output) c.in-Ok-wrote.ensures.leads c.in-Ok-wrote.ensures.tracks,
     )
 
