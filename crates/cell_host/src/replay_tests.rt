@@ -15,8 +15,7 @@ const FRONT_0: &str =
 /// Another document is asked for.
 const OTHER: &str = "GET /_front/b.docx HTTP/1.1\r\n\r\n";
 
-const NOT_FOUND: &str =
-    "HTTP/1.1 404 Not Found\r\nContent-Length: 0\r\nConnection: close\r\n\r\n";
+const NOT_FOUND: &str = "HTTP/1.1 404 Not Found\r\nContent-Length: 0\r\nConnection: close\r\n\r\n";
 
 /// An envelope: a user's name, a draw of numbers and a type that isn't served.
 const ENVELOPE: &str =
@@ -30,7 +29,11 @@ const REFUSED: &[u8] = b"cellhost: input refused\n";
 /// A source of these bytes, of which the first come in one read and the others so many at a time.
 fn pieces(alloc: Global, bytes: &[u8], first: usize, size: usize) -> Result<Pieces, Fail> {
     let source = MemSource::new(alloc, bytes, &[])?;
-    Ok(Pieces { source, first, size })
+    Ok(Pieces {
+        source,
+        first,
+        size,
+    })
 }
 
 /// Runs `replay`, which must end with this status and its line.
@@ -76,13 +79,29 @@ fn a_front_is_written(rt: HostRuntime) -> Result<(), Fail> {
 #[test]
 fn another_document_is_refused(rt: HostRuntime) -> Result<(), Fail> {
     let asked = OTHER.as_bytes();
-    answers(&rt, rt.alloc(), asked, 4096, NOT_FOUND.as_bytes(), 6, REFUSED)
+    answers(
+        &rt,
+        rt.alloc(),
+        asked,
+        4096,
+        NOT_FOUND.as_bytes(),
+        6,
+        REFUSED,
+    )
 }
 
 #[test]
 fn a_head_that_is_cut_off_is_refused(rt: HostRuntime) -> Result<(), Fail> {
     for end in 1..FRONT.len() {
-        answers(&rt, rt.alloc(), &FRONT.as_bytes()[..end], 4096, b"", 6, REFUSED)?;
+        answers(
+            &rt,
+            rt.alloc(),
+            &FRONT.as_bytes()[..end],
+            4096,
+            b"",
+            6,
+            REFUSED,
+        )?;
     }
     Ok(())
 }
