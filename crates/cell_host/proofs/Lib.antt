@@ -2,3 +2,5 @@ mod Words
 mod FewObjects
 mod Forms
 mod Taken
+mod Documents
+mod Nothing

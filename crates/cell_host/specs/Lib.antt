@@ -1,6 +1,9 @@
 pub mod Answer
+pub mod Answering
 pub mod Command
 pub mod Input
+pub mod Replaying
 pub mod Run
 pub mod Serving
 pub mod Status
+pub mod View

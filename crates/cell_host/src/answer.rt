@@ -1,13 +1,12 @@
 // The command `answer`: one request from the source, and its response to the sink.
-ghost use Rattle.std.specs.Prelude.{◌≡◌, ◌<◌, ◌^◌, ℕ, List, IfOk, MatchOption, Some};
+ghost use Rattle.std.specs.Prelude.{◌≡◌, ◌<◌, ◌^◌, ℕ, List, IfOk, MatchOption};
 ghost use Rattle.cell_host.specs.Answer.{IsAccepted};
-ghost use Rattle.cell_host.specs.Run.{Runs};
+ghost use Rattle.cell_host.specs.Answering.{Answering};
 ghost use Rattle.cell_host.specs.Serving.{answers_of};
 ghost use Rattle.doc_model.specs.rules.Apply.{empty_doc};
 ghost use Rattle.doc_model.specs.wire.Requests.{IsRequest};
 ghost use Rattle.doc_model.specs.wire.Responses.{response};
 
-use crate::command::Command;
 use crate::input::{InputFault, read_input};
 use crate::serving::run_subs;
 use crate::status::Status;
@@ -78,7 +77,7 @@ pub fn answer<S: Source, K: Sink, C: Clock>(
     out: &mut K,
     clock: &mut C,
 ) -> Status
-    ensures { Runs (Some (Command.Answer guid))
+    ensures { Answering guid
         (record {
           left = S.left source.old;
           taken = S.taken source.old;

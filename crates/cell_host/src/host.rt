@@ -5,7 +5,8 @@ ghost use Rattle.cell_host.specs.Run.{Runs, Tells};
 ghost use Rattle.cell_host.specs.Status.{code_of};
 
 use crate::answer::answer;
-use crate::command::parse_words;
+use crate::command::{Command, parse_words};
+use crate::replay::replay;
 use crate::status::Status;
 use host_edge::{Clock, Sink, Source, write_all};
 use std::alloc::Global;
@@ -38,7 +39,8 @@ fn run<S: Source, K: Sink, C: Clock>(
         result }
 {
     match parse_words(words) {
-        Some(command) => answer(alloc, command.guid(), source, out, clock),
+        Some(Command::Answer(guid)) => answer(alloc, guid, source, out, clock),
+        Some(Command::Replay) => replay(alloc, source, out, clock),
         None => Status::Usage,
     }
 }

@@ -9,14 +9,17 @@ mod host;
 mod input;
 #[cfg(test)]
 mod put_tests;
+mod replay;
+#[cfg(test)]
+mod replay_tests;
 mod serving;
 mod status;
-#[cfg(test)]
-mod test_bytes;
 #[cfg(test)]
 mod test_calls;
 #[cfg(test)]
 mod test_files;
+#[cfg(test)]
+mod test_streams;
 #[cfg(test)]
 mod tests;
 #[cfg(test)]

@@ -1,29 +1,19 @@
 // The program over objects in memory: how a run ends.
 use crate::host::host_once;
-use crate::test_bytes::{
-    DOCUMENT, END, FRONT, GRANT, RESPONSE_END, RESPONSE_FRONT, SUB, SUB_END, THOUSAND,
-};
+use compact_values::Octets;
 use host_edge::{ListClock, MemSink, MemSource};
 use std::alloc::Global;
 use std::process::Abort;
 use std::test::Fail;
+use test_forms::{add_form, bytes_of};
 
 const WORDS: [&str; 2] = ["answer", "00112233-4455-6677-8899-aabbccddeeff"];
 
-/// A client asks for 1,000 numbers.
-const EXAMPLE: [u8; 38] = [
-    0x0C, 0x00, 0x0B, 0x00, 0x9C, 0xCF, 0x29, 0xF3, 0x39, 0x94, 0x06, 0x9B, 0x06, 0x02, 0x00, 0x00,
-    0x16, 0x02, 0x06, 0x00, 0x03, 0x17, 0x00, 0x02, 0x04, 0x06, 0x00, 0xA2, 0x0F, 0x00, 0x0B, 0x01,
-    0xAC, 0x02, 0x00, 0x55, 0x03, 0x01,
-];
+/// A client asks for 1,000 numbers: 38 bytes.
+const EXAMPLE: &str = "Q  16 02 06 00 03 17 00  02 04 06 00 A2 0F 00  0B 01  P";
 
 /// It gets the numbers 1 to 1,000.
-const EXAMPLE_RESPONSE: [u8; 55] = [
-    0x0C, 0x00, 0x0B, 0x00, 0x9D, 0xCF, 0x29, 0xF3, 0x39, 0x94, 0x06, 0x9B, 0x16, 0x03, 0x02, 0x00,
-    0x00, 0xAC, 0x02, 0x00, 0x55, 0x0E, 0x02, 0x06, 0x00, 0x03, 0x17, 0x00, 0x0A, 0x04, 0x26, 0x00,
-    0x33, 0x22, 0x11, 0x00, 0x55, 0x44, 0x77, 0x66, 0x88, 0x99, 0xAA, 0xBB, 0xCC, 0xDD, 0xEE, 0xFF,
-    0x03, 0xA2, 0x0F, 0x07, 0x01, 0x8B, 0x01,
-];
+const EXAMPLE_RESPONSE: &str = "R  0E 02 06 00 03 17 00  0A 04 26 00 G 03 A2 0F  07 01  8B 01";
 
 /// A run of the program: its words, its input, the numbers of the reads and of the writes that fail, and how it must end.
 #[derive(Clone, Copy)]
@@ -90,23 +80,17 @@ fn refuses(rt: &impl Abort, alloc: Global, input: &[u8]) -> Result<(), Fail> {
     make(rt, alloc, run)
 }
 
-pub(crate) fn joined(alloc: Global, front: &[u8], parts: &[&[u8]]) -> Result<Vec<u8>, Fail> {
-    let mut all = front.to_vec(alloc)?;
-    for part in parts {
-        all.extend_from_slice(part)?;
-    }
-    Ok(all)
-}
-
 #[test]
 fn runs_end_with_their_status(rt: HostRuntime) -> Result<(), Fail> {
+    let input = bytes_of(rt.alloc(), &[EXAMPLE])?;
+    let output = bytes_of(rt.alloc(), &[EXAMPLE_RESPONSE])?;
     let done = Run {
         words: &WORDS,
-        input: &EXAMPLE,
+        input: input.as_slice(),
         failing_reads: &[],
         failing_writes: &[],
         status: 0,
-        output: &EXAMPLE_RESPONSE,
+        output: output.as_slice(),
         line: b"",
     };
     let usage = Run {
@@ -165,8 +149,9 @@ fn runs_end_with_their_status(rt: HostRuntime) -> Result<(), Fail> {
 #[test]
 fn what_is_cut_or_too_long_is_refused(rt: HostRuntime) -> Result<(), Fail> {
     let alloc = rt.alloc();
-    for end in 0..38_usize {
-        refuses(&rt, alloc, &EXAMPLE[..end])?;
+    let example = bytes_of(alloc, &[EXAMPLE])?;
+    for end in 0..example.len() {
+        refuses(&rt, alloc, &example.as_slice()[..end])?;
     }
     let past_the_limit = vec![in alloc; 0; 25_165_825]?;
     refuses(&rt, alloc, &past_the_limit)
@@ -174,68 +159,55 @@ fn what_is_cut_or_too_long_is_refused(rt: HostRuntime) -> Result<(), Fail> {
 
 #[test]
 fn other_forms_are_refused(rt: HostRuntime) -> Result<(), Fail> {
-    let alloc = rt.alloc();
-    let mut version = EXAMPLE;
-    version[0] = 11;
-    refuses(&rt, alloc, &version)?;
-    let mut signature = EXAMPLE;
-    signature[4] = 0x9D;
-    refuses(&rt, alloc, &signature)?;
-    let kind_2: &[u8] = &[
-        0x16, 0x02, 0x06, 0x00, 0x03, 0x05, 0x00, 0x02, 0x04, 0x06, 0x00, 0xA2, 0x0F, 0x00, 0x0B,
-        0x01,
+    let forms = [
+        // a byte behind the end, another version, and another signature
+        "Q  16 02 06 00 03 17 00  02 04 06 00 A2 0F 00  0B 01  P  00",
+        "0B 00 0B 00 9C CF 29 F3 39 94 06 9B  06 02 00 00  16 02 06 00 03 17 00  02 04 06 00 A2 0F 00  0B 01  P",
+        "0C 00 0B 00 9D CF 29 F3 39 94 06 9B  06 02 00 00  16 02 06 00 03 17 00  02 04 06 00 A2 0F 00  0B 01  P",
+        // a kind without its own object, a package that doesn't end, none, a draw that says nothing, and one that says it twice
+        "Q  16 02 06 00 03 05 00  02 04 06 00 A2 0F 00  0B 01  P",
+        "Q  16 02 06 00 03 17 00  02 04 06 00 A2 0F 00  0B 01  AC 02 00 55  P",
+        "Q  16 02 06 00 03 17 00  02 04 06 00 A2 0F 00  0B 01  03 01",
+        "Q  16 02 06 00 03 17 00  0B 01  P",
+        "Q  16 02 06 00 03 17 00  02 04 06 00 A2 0F 00  02 04 06 00 A2 0F 00  0B 01  P",
     ];
-    let package: &[u8] = &[0xAC, 0x02, 0x00, 0x55];
-    let end: &[u8] = &[0x03, 0x01];
-    let forms: [&[&[u8]]; 6] = [
-        &[&EXAMPLE, &[0]],
-        &[&FRONT, kind_2, &END],
-        &[&FRONT, &SUB, &THOUSAND, &SUB_END, package, &END],
-        &[&FRONT, &SUB, &THOUSAND, &SUB_END, end],
-        &[&FRONT, &SUB, &SUB_END, &END],
-        &[&FRONT, &SUB, &THOUSAND, &THOUSAND, &SUB_END, &END],
-    ];
-    for parts in forms {
-        refuses(&rt, alloc, &joined(alloc, &[], parts)?)?;
+    for form in forms {
+        refuses(&rt, rt.alloc(), bytes_of(rt.alloc(), &[form])?.as_slice())?;
     }
     Ok(())
 }
 
 /// So many sub-requests of one number each.
-fn draws_of_one(alloc: Global, count: usize) -> Result<Vec<u8>, Fail> {
-    let mut request = FRONT.to_vec(alloc)?;
+fn draws_of_one(alloc: Global, count: usize) -> Result<Octets, Fail> {
+    let mut request = bytes_of(alloc, &["Q"])?;
     for _sub in 0..count {
-        request.extend_from_slice(&[
-            0x16, 0x02, 0x06, 0x00, 0x03, 0x17, 0x00, 0x02, 0x04, 0x04, 0x00, 0x03, 0x00, 0x0B,
-            0x01,
-        ])?;
+        add_form(
+            &mut request,
+            "16 02 06 00 03 17 00  02 04 04 00 03 00  0B 01",
+        )?;
     }
-    request.extend_from_slice(&END)?;
+    add_form(&mut request, "P")?;
     Ok(request)
 }
 
 /// The answers to these: each is the next number.
-fn numbers_to(alloc: Global, count: u8) -> Result<Vec<u8>, Fail> {
-    let mut response = RESPONSE_FRONT.to_vec(alloc)?;
+fn numbers_to(alloc: Global, count: u8) -> Result<Octets, Fail> {
+    let mut response = bytes_of(alloc, &["R"])?;
     for number in 1..count {
-        response.extend_from_slice(&GRANT)?;
-        response.extend_from_slice(&[0x24, 0x00])?;
-        response.extend_from_slice(&DOCUMENT)?;
         let compact = number.wrapping_mul(2).wrapping_add(1);
-        response.extend_from_slice(&[compact, compact, 0x07, 0x01])?;
+        add_form(&mut response, "0E 02 06 00 03 17 00  0A 04 24 00 G")?;
+        response.extend_from_slice(&[compact, compact])?;
+        add_form(&mut response, "07 01")?;
     }
-    response.extend_from_slice(&RESPONSE_END)?;
+    add_form(&mut response, "8B 01")?;
     Ok(response)
 }
 
 #[test]
 fn sixty_four_sub_requests_are_answered(rt: HostRuntime) -> Result<(), Fail> {
     let alloc = rt.alloc();
-    answers(
-        &rt,
-        alloc,
-        &draws_of_one(alloc, 64)?,
-        &numbers_to(alloc, 65)?,
-    )?;
-    refuses(&rt, alloc, &draws_of_one(alloc, 65)?)
+    let request = draws_of_one(alloc, 64)?;
+    let response = numbers_to(alloc, 65)?;
+    answers(&rt, alloc, request.as_slice(), response.as_slice())?;
+    refuses(&rt, alloc, draws_of_one(alloc, 65)?.as_slice())
 }

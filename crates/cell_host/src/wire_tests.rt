@@ -1,114 +1,100 @@
 // Which bytes are answered which.
-use crate::test_bytes::{
-    ANSWER_END, DOCUMENT, END, FAULT, FAULT_END, FRONT, GRANT, NO_KNOWLEDGE, PUT, REFUSED,
-    RESPONSE_END, RESPONSE_FRONT, SECOND, SECOND_GRANT, SUB, SUB_END, SUCCESS, THOUSAND,
-};
-use crate::tests::{answers, joined};
+use crate::tests::answers;
 use std::alloc::Global;
 use std::process::Abort;
 use std::test::Fail;
+use test_forms::bytes_of;
 
-/// The request with these parts behind its front is answered by these behind the front of every response.
-fn row(rt: &impl Abort, alloc: Global, request: &[&[u8]], response: &[&[u8]]) -> Result<(), Fail> {
-    let input = joined(alloc, &FRONT, request)?;
-    let output = joined(alloc, &RESPONSE_FRONT, response)?;
-    answers(rt, alloc, &input, &output)
+/// The request of these objects is answered by the response of these.
+fn row(rt: &impl Abort, alloc: Global, request: &[&str], response: &[&str]) -> Result<(), Fail> {
+    let input = bytes_of(alloc, request)?;
+    let output = bytes_of(alloc, response)?;
+    answers(rt, alloc, input.as_slice(), output.as_slice())
 }
+
+// A draw of id 1: it asks for 1,000 numbers, or for none; and one of id 2, which asks for 5.
+const THOUSAND: &str = "16 02 06 00 03 17 00  02 04 06 00 A2 0F 00  0B 01";
+
+const NONE: &str = "16 02 06 00 03 17 00  02 04 04 00 00 00  0B 01";
+
+const FIVE: &str = "16 02 06 00 05 17 00  02 04 04 00 0B 00  0B 01";
+
+// The grant of 1 to 1,000, and the refusal of a draw as not supported.
+const GRANTED: &str = "0E 02 06 00 03 17 00  0A 04 26 00 G 03 A2 0F  07 01";
+
+const REFUSED: &str = "0E 02 06 00 03 17 01  6E 02 20 00 E  32 03 08 00 04 00 00 00  37 01  07 01";
+
+// The end of a response.
+const END: &str = "8B 01";
 
 #[test]
 fn numbers_are_drawn(rt: HostRuntime) -> Result<(), Fail> {
-    let none: &[u8] = &[0x02, 0x04, 0x04, 0x00, 0x00, 0x00];
-    let too_many: &[u8] = &[0x02, 0x04, 0x08, 0x00, 0x0C, 0x35, 0x0C, 0x00];
-    let most: &[u8] = &[0x02, 0x04, 0x08, 0x00, 0x04, 0x35, 0x0C, 0x00];
-    let most_granted: &[u8] = &[0x03, 0x04, 0x35, 0x0C];
-    let granted: &[u8] = &[0x03, 0xA2, 0x0F];
-    let next: &[u8] = &[0xA6, 0x0F, 0xB6, 0x0F];
-    let first: &[u8] = &[0x03, 0x0B];
-    // a large length, an end in 16 bits and a start in 32 bits
-    let headers: &[u8] = &[
-        0x16, 0x02, 0x06, 0x00, 0x03, 0x17, 0x00, 0x02, 0x04, 0xFE, 0xFF, 0x07, 0xA2, 0x0F, 0x00,
-        0x0B, 0x01, 0xAE, 0x00, 0x02, 0x00, 0x00, 0x57, 0x00, 0x03, 0x01,
-    ];
-    // id 300, priority 7 and further bytes in the 42, a 5D with children, a further byte in the 80
-    let skipped: &[u8] = &[
-        0x16, 0x02, 0x0C, 0x00, 0xB2, 0x04, 0x17, 0x0F, 0xAA, 0xBB, 0xEE, 0x02, 0x02, 0x00, 0x77,
-        0xB0, 0x00, 0x84, 0x00, 0x41, 0x77, 0x01, 0x02, 0x04, 0x08, 0x00, 0xA2, 0x0F, 0x00, 0xCC,
-        0x0B, 0x01,
-    ];
-    let id_300: &[u8] = &[
-        0x0E, 0x02, 0x08, 0x00, 0xB2, 0x04, 0x17, 0x00, 0x0A, 0x04, 0x26, 0x00,
-    ];
-    // the kind, and the number of the error
-    let kind: &[u8] = &[0x17];
-    let number: &[u8] = &[0x00, 0x04];
-    let rows: [(&[&[u8]], &[&[u8]]); 7] = [
+    let rows: [(&[&str], &[&str]); 7] = [
+        (&["Q", NONE, "P"], &["R", REFUSED, END]),
+        // 100,001 numbers are too many, and 100,000 the most
         (
-            &[&SUB, none, &SUB_END, &END],
-            &[&REFUSED, kind, &FAULT, number, &FAULT_END, &RESPONSE_END],
-        ),
-        (
-            &[&SUB, too_many, &SUB_END, &END],
-            &[&REFUSED, kind, &FAULT, number, &FAULT_END, &RESPONSE_END],
-        ),
-        (
-            &[&SUB, most, &SUB_END, &END],
             &[
-                &GRANT,
-                &[0x28, 0x00],
-                &DOCUMENT,
-                most_granted,
-                &ANSWER_END,
-                &RESPONSE_END,
+                "Q",
+                "16 02 06 00 03 17 00  02 04 08 00 0C 35 0C 00  0B 01",
+                "P",
+            ],
+            &["R", REFUSED, END],
+        ),
+        (
+            &[
+                "Q",
+                "16 02 06 00 03 17 00  02 04 08 00 04 35 0C 00  0B 01",
+                "P",
+            ],
+            &[
+                "R",
+                "0E 02 06 00 03 17 00  0A 04 28 00 G 03 04 35 0C  07 01",
+                END,
             ],
         ),
         // a second draw begins where the first ended
         (
-            &[&SUB, &THOUSAND, &SUB_END, &SECOND, &END],
+            &["Q", THOUSAND, FIVE, "P"],
             &[
-                &GRANT,
-                &[0x26, 0x00],
-                &DOCUMENT,
-                granted,
-                &ANSWER_END,
-                &SECOND_GRANT,
-                &[0x28, 0x00],
-                &DOCUMENT,
-                next,
-                &ANSWER_END,
-                &RESPONSE_END,
+                "R",
+                GRANTED,
+                "0E 02 06 00 05 17 00  0A 04 28 00 G A6 0F B6 0F  07 01",
+                END,
             ],
         ),
         // a refused draw takes nothing
         (
-            &[&SUB, none, &SUB_END, &SECOND, &END],
+            &["Q", NONE, FIVE, "P"],
             &[
-                &REFUSED,
-                kind,
-                &FAULT,
-                number,
-                &FAULT_END,
-                &SECOND_GRANT,
-                &[0x24, 0x00],
-                &DOCUMENT,
-                first,
-                &ANSWER_END,
-                &RESPONSE_END,
+                "R",
+                REFUSED,
+                "0E 02 06 00 05 17 00  0A 04 24 00 G 03 0B  07 01",
+                END,
             ],
         ),
+        // a large length, an end in 16 bits and a start in 32 bits
         (
-            &[headers],
             &[
-                &GRANT,
-                &[0x26, 0x00],
-                &DOCUMENT,
-                granted,
-                &ANSWER_END,
-                &RESPONSE_END,
+                "Q",
+                "16 02 06 00 03 17 00  02 04 FE FF 07 A2 0F 00  0B 01",
+                "AE 00 02 00 00  57 00  03 01",
             ],
+            &["R", GRANTED, END],
         ),
+        // id 300, priority 7 and further bytes in the 42, a 5D with children, a further byte in the 80
         (
-            &[skipped, &END],
-            &[id_300, &DOCUMENT, granted, &ANSWER_END, &RESPONSE_END],
+            &[
+                "Q",
+                "16 02 0C 00 B2 04 17 0F AA BB",
+                "EE 02 02 00 77  B0 00  84 00 41  77 01",
+                "02 04 08 00 A2 0F 00 CC  0B 01",
+                "P",
+            ],
+            &[
+                "R",
+                "0E 02 08 00 B2 04 17 00  0A 04 26 00 G 03 A2 0F  07 01",
+                END,
+            ],
         ),
     ];
     for (request, response) in rows {
@@ -119,42 +105,36 @@ fn numbers_are_drawn(rt: HostRuntime) -> Result<(), Fail> {
 
 #[test]
 fn other_kinds_are_answered(rt: HostRuntime) -> Result<(), Fail> {
-    let pull: &[u8] = &[
-        0x16, 0x02, 0x06, 0x00, 0x03, 0x05, 0x00, 0x8A, 0x02, 0x02, 0x00, 0x00, 0x0B, 0x01,
-    ];
-    let pulled: &[u8] = &[
-        0x0E, 0x02, 0x06, 0x00, 0x03, 0x05, 0x00, 0xFA, 0x02, 0x04, 0x00, 0x00, 0x00,
-    ];
-    let access: &[u8] = &[0x16, 0x02, 0x06, 0x00, 0x03, 0x03, 0x00, 0x0B, 0x01];
-    let granted: &[u8] = &[0x0E, 0x02, 0x06, 0x00, 0x03, 0x03, 0x00];
-    let read: &[u8] = &[0x1E, 0x02, 0x00, 0x00];
-    let write: &[u8] = &[0x0F, 0x01, 0x36, 0x02, 0x00, 0x00];
-    let write_end: &[u8] = &[0x1B, 0x01];
-    let unknown: &[u8] = &[0x16, 0x02, 0x06, 0x00, 0x03, 0x0D, 0x00, 0x0B, 0x01];
-    let rows: [(&[&[u8]], &[&[u8]]); 3] = [
-        (&[pull, &END], &[pulled, &NO_KNOWLEDGE, &RESPONSE_END]),
+    let rows: [(&[&str], &[&str]); 3] = [
+        // a download of nothing: a null index, and no knowledge
         (
-            &[access, &END],
+            &["Q", "16 02 06 00 03 05 00  8A 02 02 00 00  0B 01", "P"],
             &[
-                granted,
-                read,
-                &SUCCESS,
-                write,
-                &SUCCESS,
-                write_end,
-                &ANSWER_END,
-                &RESPONSE_END,
+                "R",
+                "0E 02 06 00 03 05 00  FA 02 04 00 00 00",
+                "84 00  26 02 20 00 K  A4 00  51  13 01  41  07 01",
+                END,
             ],
         ),
+        // the client may read and write
         (
-            &[unknown, &END],
+            &["Q", "16 02 06 00 03 03 00  0B 01", "P"],
             &[
-                &REFUSED,
-                &[0x0D],
-                &FAULT,
-                &[0x00, 0x04],
-                &FAULT_END,
-                &RESPONSE_END,
+                "R",
+                "0E 02 06 00 03 03 00",
+                "1E 02 00 00  6E 02 20 00 H  92 02 08 00 00 00 00 00  37 01  0F 01",
+                "36 02 00 00  6E 02 20 00 H  92 02 08 00 00 00 00 00  37 01  1B 01",
+                "07 01",
+                END,
+            ],
+        ),
+        // a kind that isn't served
+        (
+            &["Q", "16 02 06 00 03 0D 00  0B 01", "P"],
+            &[
+                "R",
+                "0E 02 06 00 03 0D 01  6E 02 20 00 E  32 03 08 00 04 00 00 00  37 01  07 01",
+                END,
             ],
         ),
     ];
@@ -164,38 +144,38 @@ fn other_kinds_are_answered(rt: HostRuntime) -> Result<(), Fail> {
     Ok(())
 }
 
+// What a put of a null index without elements is answered, which expects the number 0 of the GUID 0: coherency, something
+// that isn't there, and that it is kept.
+const INCOHERENT: &str =
+    "0E 02 06 00 03 0B 01  6E 02 20 00 E  32 03 08 00 0C 00 00 00  37 01  07 01";
+
+const NOT_FOUND: &str =
+    "0E 02 06 00 03 0B 01  6E 02 20 00 E  32 03 08 00 10 00 00 00  37 01  07 01";
+
+const KEPT: &str = "0E 02 06 00 03 0B 00  84 00  26 02 20 00 K  A4 00  51  13 01  41  07 01";
+
 #[test]
 fn a_put_goes_by_its_flags(rt: HostRuntime) -> Result<(), Fail> {
-    let incoherent: [&[u8]; 6] = [
-        &REFUSED,
-        &[0x0B],
-        &FAULT,
-        &[0x00, 0x0C],
-        &FAULT_END,
-        &RESPONSE_END,
-    ];
-    let not_found: [&[u8]; 6] = [
-        &REFUSED,
-        &[0x0B],
-        &FAULT,
-        &[0x00, 0x10],
-        &FAULT_END,
-        &RESPONSE_END,
-    ];
-    let kept: [&[u8]; 4] = [&REFUSED, &[0x0B, 0x00], &NO_KNOWLEDGE, &RESPONSE_END];
-    let rows: [(u8, &[&[u8]]); 6] = [
+    let put =
+        "16 02 06 00 03 0B 00  D2 02 26 00 00 04 00 00 00 00 00 00 00 00 00 00 00 00 00 00 00 00";
+    let rows = [
         // by itself, with all flags that are ignored, and as the last part
-        (0x00, &incoherent),
-        (0x78, &incoherent),
-        (0x06, &incoherent),
+        ("00", INCOHERENT),
+        ("78", INCOHERENT),
+        ("06", INCOHERENT),
         // the expected index is implied null, or doesn't matter
-        (0x01, &not_found),
-        (0x80, &not_found),
+        ("01", NOT_FOUND),
+        ("80", NOT_FOUND),
         // a part is kept
-        (0x02, &kept),
+        ("02", KEPT),
     ];
-    for (flags, response) in rows {
-        row(&rt, rt.alloc(), &[&PUT, &[flags], &SUB_END, &END], response)?;
+    for (flags, answer) in rows {
+        row(
+            &rt,
+            rt.alloc(),
+            &["Q", put, flags, "0B 01", "P"],
+            &["R", answer, END],
+        )?;
     }
     Ok(())
 }

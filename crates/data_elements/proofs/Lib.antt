@@ -16,3 +16,8 @@ pub mod NumberedAnswer
 pub mod PackageAnswer
 pub mod KnowledgeLaws
 pub mod KnowledgeAnswer
+pub mod Totals
+pub mod SpelledSizes
+pub mod WrittenSizes
+pub mod GroupSizes
+pub mod ElementSizes

@@ -6,5 +6,6 @@ pub mod Submits
 pub mod Bodies
 pub mod Replaying
 pub mod Reopened
+pub mod Soundness
 pub mod Openable
 pub mod Restarts

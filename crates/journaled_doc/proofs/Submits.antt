@@ -156,9 +156,11 @@ replay_next d (x ∷ h) item = replay_next (apply d x.1).doc h item
 abbrev pub last_with : ℕ → Call → Submitted → Bool → ℕ → ℕ → Option Last
 last_with caller call s moved before after = Some (record { caller = caller; call = call; made = record { submitted = s; before = before; after = after }; moved = moved })
 
-pub last_is : (caller : ℕ) (call : Call) (s : Submitted) (moved : Bool) (b before a after : ℕ) (t : Told) → t.last ≡ last_with caller call s moved b a → b ≡ before → a ≡ after → IsLast caller call s before after t
-last_is caller call s moved b before a after t e p q = record {
+pub last_is : (caller : ℕ) (call : Call) (s : Submitted) (moved : Bool) (b before a after : ℕ) (moves : Bool) (t : Told) → IsTold moves moved s → t.last ≡ last_with caller call s moved b a → b ≡ before → a ≡ after
+    → IsLast caller call s before after moves t
+last_is caller call s moved b before a after moves t m e p q = record {
   moved = moved;
+  as_told = m;
   last = e ∙ ap (λ (n : ℕ). last_with caller call s moved n a) p ∙ ap (λ (n : ℕ). last_with caller call s moved before n) q;
 }
 

@@ -122,9 +122,10 @@ module _ {C D : Type 0} where
   Became doc may_leave j events call moved JournalFull = InEra doc may_leave j events
   Became doc may_leave j events call moved NoMemory = InEra doc may_leave j events
 
--- The call is the last one, with what became of it and the counts of faults round it.
-pub record IsLast (caller : ℕ) (call : Call) (submitted : Submitted) (before after : ℕ) (t : Told) : Type 0 where
+-- The call is the last one, with what became of it, the counts of faults round it, and whether it was to move.
+pub record IsLast (caller : ℕ) (call : Call) (submitted : Submitted) (before after : ℕ) (moves : Bool) (t : Told) : Type 0 where
   pub moved : Bool
+  pub as_told : IsTold moves moved submitted
   pub last : t.last ≡ Some (record { caller = caller; call = call; made = record { submitted = submitted; before = before; after = after }; moved = moved })
 
 -- The document is one that was opened with this core, journal and story just now.

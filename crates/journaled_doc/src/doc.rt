@@ -74,7 +74,7 @@ impl<C: Core, D: Disk> JournaledDoc<C, D> {
 
         // What the history gains, and the call made last.
         ensures gains { history self.new ≡ history self.old ++ gained caller call.now result (apply (C.doc self.old.core) call.now).moved }
-        ensures last { IsLast caller call.now result (D.faults self.old.kept.journal.disk) (D.faults self.new.kept.journal.disk) (told self.new.story) }
+        ensures last { IsLast caller call.now result (D.faults self.old.kept.journal.disk) (D.faults self.new.kept.journal.disk) (apply (C.doc self.old.core) call.now).moved (told self.new.story) }
 
         // The document is that of its history, and so is the disk.
         ensures journaled { IsJournaled C.doc D.may_leave self.old → IsJournaled C.doc D.may_leave self.new }

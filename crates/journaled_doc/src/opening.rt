@@ -9,6 +9,7 @@ ghost use Rattle.cell_journal.specs.Readings.{HasGiven};
 ghost use Rattle.change_record.specs.Changes.{IsChange};
 ghost use Rattle.change_record.specs.FittingCalls.{FitsCall};
 ghost use Rattle.doc_model.specs.rules.Apply.{apply, empty_doc};
+ghost use Rattle.doc_model.specs.rules.Sound.{Sound};
 ghost use Rattle.doc_model.specs.declared.call.Call.{Call};
 ghost use Rattle.journaled_doc.specs.Eras.{Event, Created, NotOpened, Keeps};
 ghost use Rattle.journaled_doc.specs.Docs.{history, IsJournaled, InEra, IsNew};
@@ -133,6 +134,7 @@ impl<C: Core, D: Disk> JournaledDoc<C, D> {
         requires document { C.doc core ≡ empty_doc (C.doc core).guid }
         requires empty { (c : List ℕ) → D.may_leave disk c → c ≡ [] }
         ensures document { IfOk result (λ j. (C.doc j.core ≡ C.doc core) × (history j ≡ [])) }
+        ensures sound { IfOk result (λ j. Sound (C.doc j.core)) }
         ensures journaled { IfOk result (IsJournaled C.doc D.may_leave) }
         ensures era { IfOk result (λ j. InEra C.doc D.may_leave j (Created ∷ [])) }
         ensures settled { IfOk result (λ j. IsTrue j.kept.journal.settled) }
@@ -168,6 +170,7 @@ impl<C: Core, D: Disk> JournaledDoc<C, D> {
         requires given { HasGiven D.seen D.may_leave reading [] }
         requires document { C.doc core ≡ empty_doc reading.guid }
         ensures document { IfOk result (IsReopened C.doc D.seen D.may_leave reading.disk) }
+        ensures sound { IfOk result (λ j. Sound (C.doc j.core)) }
         ensures history { IfOk result (λ j. history j ≡ []) }
         ensures journaled { IfOk result (IsJournaled C.doc D.may_leave) }
         ensures guid { IfOk result (λ j. j.kept.journal.guid ≡ reading.guid) }

@@ -12,3 +12,7 @@ mod Rooming
 pub mod Safe
 mod OneCut
 mod SomeCut
+mod CourseEnds
+mod Joining
+mod Wanting
+mod Passing

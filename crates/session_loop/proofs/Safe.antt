@@ -14,7 +14,7 @@ use Rattle.collection_run.specs.Processes.{Process, says, calls, Asks, after, Is
 use Rattle.collection_run.specs.Progress.{process_of}
 use Rattle.session_loop.specs.Sessions.{Machine, IsRefusing, IsAnswering, IsOutOf, CallAt, IsCallOf, WantsIs, SettledAt, IsSettled}
 use Rattle.session_loop.specs.declared.want.Want.{Want}
-use Rattle.session_loop.specs.declared.want.Want.TheVariants.{Submit}
+use Rattle.session_loop.specs.declared.want.Want.TheVariants.{Submit, Front}
 use Rattle.session_loop.specs.Safety.{SafeAt, IsSafe}
 use Rattle.session_loop.specs.declared.stage.Stage.{Stage}
 use Rattle.session_loop.specs.declared.stage.Stage.TheVariants.{Heading, InBody, Timing, Running, Filing, Fronting, Writing, Over}
@@ -94,3 +94,20 @@ sound_of k n call (Answered reply) keeps sound valid is = subst (λ (x : Kept). 
 sound_of k n call DiskFault keeps sound valid is = subst (λ (x : Kept). Sound x.doc) (sym is) sound
 sound_of k n call JournalFull keeps sound valid is = subst (λ (x : Kept). Sound x.doc) (sym is) sound
 sound_of k n call NoMemory keeps sound valid is = subst (λ (x : Kept). Sound x.doc) (sym is) sound
+
+same_front : (a b : ℕ) → ◌≡◌ {A = Want} (Front a) (Front b) → a ≡ b
+same_front a b e = cc
+
+fronted_at : (stage : Stage) (m : Machine) (doc : ℕ) → WantsIs stage (Front doc) → SafeAt stage m → doc < length m.names
+fronted_at (Fronting d close) m doc wants safe = subst (λ (i : ℕ). i < length m.names) (sym (same_front doc d wants)) safe
+fronted_at Heading m doc wants safe = absurd cc
+fronted_at (InBody r close) m doc wants safe = absurd cc
+fronted_at (Timing r close) m doc wants safe = absurd cc
+fronted_at (Running d close) m doc wants safe = absurd cc
+fronted_at (Filing d close) m doc wants safe = absurd cc
+fronted_at (Writing next) m doc wants safe = absurd cc
+fronted_at (Over end) m doc wants safe = absurd cc
+
+-- the document whose count is wanted is there
+pub front_within : (m : Machine) (doc : ℕ) → WantsIs m.stage (Front doc) → IsSafe m → doc < length m.names
+front_within m doc wants safe = fronted_at m.stage m doc wants safe

@@ -20,7 +20,7 @@ abbrev pub IsSubmitted : Kept → Call → Submitted → Kept → Type 0
 IsSubmitted k call (Answered reply) n = (reply ≡ (apply k.doc call).reply) × (n ≡ changed k (apply k.doc call))
 IsSubmitted k call submitted n = n ≡ k
 
--- a document in memory has no disk that could fail
+-- a document in memory has no disk that could fail: its calls are answered, or there is no memory for them
 abbrev pub IsLone : Submitted → Type 0
 IsLone (Answered reply) = Unit {0}
 IsLone NoMemory = Unit {0}

@@ -4,3 +4,4 @@ pub mod Sessions
 pub mod Rooms
 pub mod Safety
 pub mod Documents
+pub mod Driving

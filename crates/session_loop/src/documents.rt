@@ -3,6 +3,7 @@ ghost use Rattle.std.specs.Prelude.{◌≡◌};
 ghost use Rattle.doc_model.specs.rules.Sound.{Valid};
 ghost use Rattle.session_loop.specs.Documents.{IsSubmitted, IsLone};
 
+use compact_values::Names;
 use doc_model::{Call, Core, Submitted};
 
 /// A core that is kept in memory alone, and the number of changes since it was made.
@@ -10,6 +11,16 @@ use doc_model::{Call, Core, Submitted};
 pub struct CoreDoc<C: Core> {
     pub core: C,
     pub front: u64,
+}
+
+/// Documents in the order of their names.
+pub type CoreDocs<C> = Vec<CoreDoc<C>>;
+
+/// The documents that a connection is served over, and as many names.
+#[derive(Drop)]
+pub struct LoneDocs<C: Core> {
+    pub names: Names,
+    pub docs: CoreDocs<C>,
 }
 
 impl<C: Core> CoreDoc<C> {

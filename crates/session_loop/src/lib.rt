@@ -9,11 +9,13 @@
 //! - `answering`: answers and refusals
 //! - `user`: the user of a request
 //! - `documents`: documents that are kept in memory alone
+//! - `driving`: a session over a source, a sink, a clock and those documents
 //! - `laws`: what holds of the definitions themselves
 #![tactic(auto)]
 
 mod answering;
 mod documents;
+mod driving;
 mod input;
 pub mod laws;
 mod reading;
@@ -23,7 +25,8 @@ mod stage;
 mod user;
 mod want;
 
-pub use documents::CoreDoc;
+pub use documents::{CoreDoc, CoreDocs, LoneDocs};
+pub use driving::drive_lone;
 pub use session::{REQUEST_LIMIT, Session};
 pub use stage::Stage;
 pub use want::{SessionEnd, Want};

@@ -1,4 +1,4 @@
-use Rattle.std.proofs.Common.{ℕ, List, ◌++◌, ap, ◌∙◌, sym}
+use Rattle.std.proofs.Common.{ℕ, List, ◌++◌, ap, ◌∙◌}
 use Rattle.stream_objects.specs.Headers.{written_end}
 use Rattle.doc_model.specs.wire.WrittenElements.{declarations_bytes, datas_bytes}
 use Rattle.change_record.specs.Behind.{element_head}

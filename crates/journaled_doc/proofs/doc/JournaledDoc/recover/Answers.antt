@@ -9,6 +9,7 @@ use Rattle.journaled_doc.proofs.Eras.{found_in}
 use Rattle.journaled_doc.proofs.Reopened.{opened_in, reopened}
 use Rattle.journaled_doc.proofs.Openable.{opens}
 use Rattle.journaled_doc.proofs.Replaying.{err_is}
+use Rattle.journaled_doc.proofs.Soundness.{reopened_sound}
 use Rattle.journaled_doc.proofs.doc.JournaledDoc.recover.Goals as goal
 
 pub returns-in-Ok-replay_all-clause-era : goal.returns-in-Ok-replay_all-clause-era
@@ -48,3 +49,6 @@ returns-in-Ok-replay_all-clause-opens g c = λ place bytes told fails.
     let there = (c.finish.ensures.stands (bodies r.calls) r.given).safe bytes left in
     let here = subst (λ (x : Guid). Image x (bodies r.calls) bytes) (c.finish.ensures.guid ∙ own) there in
     opens c.args.reading.guid r.calls bytes place small (subst (λ (x : Guid). AreChanges (empty_doc x) r.calls) own r.changes) r.only here c.whole_bodies_come_first.ensures c.no_journal_where_it_fails.ensures fails
+
+pub returns-in-Ok-replay_all-clause-sound : goal.returns-in-Ok-replay_all-clause-sound
+returns-in-Ok-replay_all-clause-sound g c = reopened_sound g.C.Core.doc g.D.Disk.seen g.D.Disk.may_leave c.args.reading.disk c.opened.result (returns-in-Ok-replay_all-clause-document g c)

@@ -22,7 +22,7 @@ returns-clause-era g c = λ events is.
 
 pub returns-clause-last : goal.returns-clause-last
 returns-clause-last g c =
-    last_is c.args.caller c.args.call.now c.attempt-moved.result.1 c.attempt-moved.result.0 _ _ _ _ _ (ap (λ (t : Told). t.last) c.note.ensures) (ap g.D.Disk.faults (c.of-before.ensures ∙ c.disk.ensures)) (ap g.D.Disk.faults c.disk-2.ensures)
+    last_is c.args.caller c.args.call.now c.attempt-moved.result.1 c.attempt-moved.result.0 _ _ _ _ _ _ c.attempt-moved.ensures.moves (ap (λ (t : Told). t.last) c.note.ensures) (ap g.D.Disk.faults (c.of-before.ensures ∙ c.disk.ensures)) (ap g.D.Disk.faults c.disk-2.ensures)
 
 pub returns-clause-journaled : goal.returns-clause-journaled
 returns-clause-journaled g c = λ is.

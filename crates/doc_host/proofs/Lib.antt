@@ -1,0 +1,15 @@
+pub mod Beyond
+pub mod Turns
+pub mod Lists
+pub mod Pairs
+pub mod Known
+pub mod Passes
+pub mod Results
+pub mod Splitting
+pub mod Splits
+pub mod Joining
+pub mod Taking
+pub mod Beginning
+pub mod Closing
+pub mod Documents
+pub mod Callers
