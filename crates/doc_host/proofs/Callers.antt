@@ -13,7 +13,7 @@ use Rattle.turn_board.specs.Rule.{AreApart}
 use Rattle.doc_model.specs.declared.call.Call.{Call}
 use Rattle.doc_model.specs.declared.doc.Doc.{Doc}
 use Rattle.doc_model.specs.declared.made.Made.{Made}
-use Rattle.doc_model.specs.rules.Histories.{History, EachMoves, Placed, Stands, answered}
+use Rattle.doc_model.specs.rules.Histories.{History, Placed, Stands, answered}
 use Rattle.doc_model.specs.laws.Histories.{AreCallers}
 use Rattle.doc_model.proofs.OneThread.{one-thread}
 use Rattle.doc_host.specs.declared.journaled.Opening.{Opening}
@@ -105,4 +105,4 @@ module _ (opening : Opening) (history : History) (faults : ℕ) (v : Known) (h :
   }
 
 pub all-are-one-thread : AllAreOneThread
-all-are-one-thread opening history faults v moves h = one-thread opening.doc history (callers_of v) moves (are_callers opening history faults v h)
+all-are-one-thread opening history faults v h = one-thread opening.doc history (callers_of v) h.moves (are_callers opening history faults v h)

@@ -12,7 +12,7 @@ use Rattle.turn_board.specs.Seats.{view, IsWhole, IsClosed}
 use Rattle.turn_board.proofs.Fronts.{prefix_self}
 use Rattle.doc_model.specs.declared.call.Call.{Call}
 use Rattle.doc_model.specs.declared.made.Made.{Made}
-use Rattle.doc_model.specs.rules.Histories.{History, Tried}
+use Rattle.doc_model.specs.rules.Histories.{History, EachMoves, Tried}
 use Rattle.doc_host.specs.declared.journaled.Opening.{Opening}
 use Rattle.doc_host.specs.Attempts.{attempts}
 use Rattle.doc_host.specs.Seats.{Known, Knows}
@@ -35,13 +35,14 @@ whole_each (u ∷ us) alike knows whole i v e =
 some_is : {A : Type 0} (x y : A) → Some x ≡ Some y → x ≡ y
 some_is x y e = cc
 
-pub closed_one : {S : Type 0} (story : S → History) (tally : S → ℕ) (root : S → Opening) (v : Known) (y : S) → Knows v → IsClosed story tally root (λ (m : Made). m.after) v y → HasClosed (root y) (story y) (tally y) v
-closed_one story tally root v y k h =
+pub closed_one : {S : Type 0} (story : S → History) (tally : S → ℕ) (root : S → Opening) (v : Known) (y : S) → Knows v → EachMoves (root y).doc (story y) → IsClosed story tally root (λ (m : Made). m.after) v y → HasClosed (root y) (story y) (tally y) v
+closed_one story tally root v y k moves h =
     let o : k.opening ≡ root y = some_is k.opening (root y) (sym k.rooted ∙ h.rooted) in
     let pre : IsPrefix v.seen (story y) = subst (λ (l : History). IsPrefix v.seen l) (sym h.seen) (prefix_self v.seen) in
     record {
       rooted = h.rooted;
       seen = h.seen;
+      moves = moves;
       floor = h.floor;
       tried = subst (λ (p : Opening). Tried p.doc p.bodies (story y) v.number (attempts v.made)) o (k.own (story y) pre h.own);
       own = h.own;

@@ -3,7 +3,7 @@ use Rattle.std.specs.Prelude.{ℕ, List, ◌∷◌, map}
 use Rattle.turn_board.specs.declared.view.Made.{Made as Kept}
 use Rattle.doc_model.specs.declared.call.Call.{Call}
 use Rattle.doc_model.specs.declared.made.Made.{Made}
-use Rattle.doc_model.specs.rules.Histories.{History, EachMoves, Placed, answered}
+use Rattle.doc_model.specs.rules.Histories.{History, Placed, answered}
 use Rattle.doc_model.specs.laws.Histories.{Ran, IsOneThread}
 use Rattle.doc_host.specs.declared.journaled.Opening.{Opening}
 use Rattle.doc_host.specs.Attempts.{attempts}
@@ -22,5 +22,5 @@ callers_of v = caller v.number v.made ∷ map (λ e. caller e.number e.made) v.e
 -- are the history, and each caller's calls come in its order with the replies that it had
 abbrev pub AllAreOneThread : Type 0
 AllAreOneThread =
-    (opening : Opening) (history : History) (faults : ℕ) (v : Known) → EachMoves opening.doc history → HasClosed opening history faults v
+    (opening : Opening) (history : History) (faults : ℕ) (v : Known) → HasClosed opening history faults v
     → (run : List Ran) × IsOneThread opening.doc history (callers_of v) run

@@ -8,7 +8,7 @@ use Rattle.turn_board.specs.Calls.{calls_by, moved_calls, MarksUpTo}
 use Rattle.turn_board.specs.Seats.{IsWhole, HasEnded}
 use Rattle.doc_model.specs.declared.call.Call.{Call}
 use Rattle.doc_model.specs.declared.made.Made.{Made}
-use Rattle.doc_model.specs.rules.Histories.{History, Tried}
+use Rattle.doc_model.specs.rules.Histories.{History, EachMoves, Tried}
 use Rattle.doc_host.specs.declared.journaled.Opening.{Opening}
 use Rattle.doc_host.specs.Attempts.{attempts}
 use Rattle.doc_host.specs.Seats.{Known, Knows}
@@ -57,12 +57,13 @@ joined [] ws = []
 joined (v ∷ vs) [] = v ∷ vs
 joined (v ∷ vs) (w ∷ ws) = both_of v w ∷ joined vs ws
 
--- What a closed document is to the seat of the whole pass, whose view is v: its history is what the seat has seen. All that was made
--- under each number that the pass has or keeps was tried in it, and nothing stands in it under another number. These numbers differ. No
--- count of faults at a call's end passes the disk's
+-- What a closed document is to the seat of the whole pass, whose view is v: its history is what the seat has seen, and each change
+-- moved it where it stands. All that was made under each number that the pass has or keeps was tried in it, and nothing stands in it
+-- under another number. These numbers differ. No count of faults at a call's end passes the disk's
 pub record HasClosed (opening : Opening) (history : History) (faults : ℕ) (v : Known) : Type 0 where
   pub rooted : v.root ≡ Some opening
   pub seen : history ≡ v.seen
+  pub moves : EachMoves opening.doc history
   pub floor : v.floor ≤ length history
   pub tried : Tried opening.doc opening.bodies history v.number (attempts v.made)
   pub own : calls_by v.number history ≡ moved_calls v.made

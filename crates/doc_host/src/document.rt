@@ -68,6 +68,8 @@ impl<C: Core, D: Disk + Drop> Journaled for Document<C, D> {
         self.doc.front()
     }
 
+    fn each_moves(&self) {}
+
     fn forget(&mut self) {
         self.doc.forget();
     }

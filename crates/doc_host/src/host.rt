@@ -155,7 +155,7 @@ impl<J: Journaled> Host<J> {
     }
 
     /// The documents, in their order, once one pass has all numbers. The history of each has the calls of every number just as
-    /// the passes made them.
+    /// the passes made them: by `laws`, all answered calls are one thread's run.
     pub fn close(self, pass: Pass<J>) -> Vec<J>
         requires host { IsPassOf self pass }
         requires whole { whole_in (views pass) }
@@ -168,6 +168,7 @@ impl<J: Journaled> Host<J> {
             let board = boards.remove(0);
             let seat = seats.remove(0);
             let doc = board.close(seat).into_doc();
+            doc.each_moves();
             docs.push_reserved(doc);
         }
         docs

@@ -15,7 +15,7 @@ pub struct Opening {
 /// A document that is kept in a journal, as a host needs it. The ghost members are what contracts speak of, and take no bytes.
 pub trait Journaled: Drop {
     ghost use Rattle.std.specs.Prelude.{ℕ, Option};
-    ghost use Rattle.doc_model.specs.rules.Histories.{History};
+    ghost use Rattle.doc_model.specs.rules.Histories.{History, EachMoves};
     ghost use Rattle.turn_board.specs.declared.kept.Last.{Last};
     ghost use Rattle.doc_model.specs.declared.call.Call.{Call};
     ghost use Rattle.doc_model.specs.declared.made.Made.{Made};
@@ -43,6 +43,10 @@ pub trait Journaled: Drop {
     /// How many changes it has had since it was opened.
     fn front(&self) -> u64
         ensures { result ≡ length (history self.now) };
+
+    /// Each change of its history moved the document where it stands. This says so, and does nothing.
+    fn each_moves(&self)
+        ensures { EachMoves (opening self.now).doc (history self.now) };
 
     /// Keeps no call made last, and changes nothing else.
     fn forget(&mut self)
