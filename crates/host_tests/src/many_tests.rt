@@ -14,7 +14,7 @@ use std::test::Fail;
 use std::thread::{Threads, map_vec};
 
 /// How often the threads run, and how many calls each makes in a run.
-const RUNS: u32 = 10_000;
+const RUNS: u32 = 40;
 
 const CALLS: u32 = 20;
 
@@ -33,15 +33,15 @@ struct Course {
     told: Vec<Told>,
 }
 
-// What a reply says. Whoever holds the lock and is told that it is done has dropped it.
-fn told_of(submitted: Option<Submitted>, holds: bool) -> Told {
+// What a reply says.
+fn told_of(submitted: Option<Submitted>) -> Told {
     let Some(Submitted::Answered { reply }) = submitted else {
         return Told::Other;
     };
     match reply {
         Reply::Drawn { least, .. } => Told::Drawn { number: least },
-        Reply::Done if holds => Told::Dropped,
-        Reply::Done => Told::Taken,
+        Reply::Locked { .. } => Told::Taken,
+        Reply::Done => Told::Dropped,
         Reply::Refused {
             code: Code::AlreadyLocked,
         } => Told::Refused,
@@ -72,7 +72,7 @@ fn call_once<R: Wait>(
     }
     if kind == 1 {
         let submitted = submit(rt, alloc, host, pass, 0, Sub::Draw { count: 1 });
-        return told_of(submitted, false);
+        return told_of(submitted);
     }
     let step = if holds {
         LockStep::DropExclusive { id }
@@ -80,7 +80,7 @@ fn call_once<R: Wait>(
         LockStep::TakeExclusive { id, timeout: HOUR }
     };
     let submitted = submit(rt, alloc, host, pass, 0, Sub::Lock { step });
-    told_of(submitted, holds)
+    told_of(submitted)
 }
 
 // All calls of one thread.
