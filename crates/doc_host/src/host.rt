@@ -1,5 +1,6 @@
 // Documents behind boards, and the calls of passes on them.
 ghost use Rattle.std.specs.Prelude.{◌≤◌, length};
+ghost use Rattle.doc_host.specs.declared.limits.TheConstants.{MOST_DOCUMENTS};
 
 use crate::journaled::Journaled;
 use crate::pass::Pass;
@@ -17,11 +18,12 @@ use turn_board::{Board, Busy};
 pub struct Host<J: Journaled> {
     pub(crate) boards: Vec<Board<Shared<J>>>,
     pub(crate) home: Mutex<Room<J>>,
-    ghost few: { length boards.items ≤ 16 },
+    ghost few: { length boards.items ≤ MOST_DOCUMENTS },
 }
 
 impl<J: Journaled> Host<J> {
     ghost use Rattle.std.specs.Prelude.{◌≡◌, ◌<◌, ◌≤◌, [], List, ℕ, length, map, slice_get, vec_len, IfOk, IfErr, OnOk, OnErr, Some};
+    ghost use Rattle.doc_host.specs.declared.limits.TheConstants.{MOST_DOCUMENTS, MOST_PASSES};
     ghost use Rattle.turn_board.specs.Rule.{first_view, kept_part, given_part};
     ghost use Rattle.doc_host.specs.Submits.{MayBeMade};
     ghost use Rattle.doc_host.specs.Seats.{HasMade, FoundBusy, ReadsFront};
@@ -32,8 +34,8 @@ impl<J: Journaled> Host<J> {
     /// 1 to 64 numbers for passes. The first pass has number 0, all other numbers to give away, and 2^62 turns on each document.
     /// Where there is no memory the documents are dropped.
     pub fn new(alloc: Global, docs: Vec<J>, seats: u32) -> Result<(Host<J>, Pass<J>), NoMemory>
-        requires docs { (1 ≤ vec_len docs) × (vec_len docs ≤ 16) }
-        requires seats { (1 ≤ seats) × (seats ≤ 64) }
+        requires docs { (1 ≤ vec_len docs) × (vec_len docs ≤ MOST_DOCUMENTS) }
+        requires seats { (1 ≤ seats) × (seats ≤ MOST_PASSES) }
         requires fresh { (i : ℕ) (d : J) → slice_get docs.items i ≡ Some d → J.history d ≡ [] }
         ensures host { IfOk result (λ r. IsPassOf r.0 r.1) }
         ensures first { IfOk result (λ r. views r.1 ≡ map (λ d. first_view (J.opening d) seats) docs.items) }

@@ -5,6 +5,7 @@
 //! - `document`: a document that is kept in a journal, as a host takes it
 //! - `journaled`: what it owes to a host
 //! - `laws`: what holds of all callers of a host together
+//! - `limits`: how many documents and passes a host may have
 //! - `shared`: a document as a board keeps it
 //! - `turn`: one call, in a turn of its own
 //! - `room`: the room in which the documents of a host come back
@@ -14,6 +15,7 @@ mod document;
 mod host;
 mod journaled;
 pub mod laws;
+pub mod limits;
 mod pass;
 mod room;
 mod shared;

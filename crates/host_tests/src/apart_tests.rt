@@ -4,7 +4,7 @@ ghost use Rattle.std.specs.Thread.{IsSync};
 ghost use Rattle.host_tests.specs.Hosts.{IsPassTo};
 ghost use Rattle.journaled_doc.specs.Docs.{history};
 
-use crate::test_hosts::{Kept, host_of_two, new_document, submit};
+use crate::test_hosts::{Kept, host_of_two, new_document, split_off, submit};
 use compact_values::Seq;
 use doc_host::{Host, Journaled, Pass};
 use doc_model::{Call, Knowledge, Reply, Sub, Submitted};
@@ -103,14 +103,14 @@ impl<J: Journaled> Journaled for Slow<J> {
 }
 
 // A call with a pass of its own, and the pass.
-fn submit_on<R: Wait>(
+fn submit_on<J: Journaled, R: Wait>(
     rt: &R,
     alloc: Global,
-    host: &Host<Slow<Kept>>,
-    mut pass: Pass<Slow<Kept>>,
+    host: &Host<J>,
+    mut pass: Pass<J>,
     doc: usize,
     sub: Sub,
-) -> (Pass<Slow<Kept>>, Option<Submitted>)
+) -> (Pass<J>, Option<Submitted>)
     requires { IsPassTo 2 host.now pass × (doc < 2) }
     ensures { IsPassTo 2 host.now result.0 }
 {
@@ -119,23 +119,23 @@ fn submit_on<R: Wait>(
 }
 
 // Draws a number of the first document and pulls the second one, each in a thread of its own.
-fn change_and_pull<R: Threads + Wait + Sync>(
+fn change_and_pull<J: Journaled + Send, R: Threads + Wait + Sync>(
     rt: &R,
     alloc: Global,
-    host: &Host<Slow<Kept>>,
-    first: Pass<Slow<Kept>>,
-    second: Pass<Slow<Kept>>,
-) -> ((Pass<Slow<Kept>>, Option<Submitted>), (Pass<Slow<Kept>>, Option<Submitted>))
+    host: &Host<J>,
+    first: Pass<J>,
+    second: Pass<J>,
+) -> ((Pass<J>, Option<Submitted>), (Pass<J>, Option<Submitted>))
     requires { IsPassTo 2 host.now first × IsPassTo 2 host.now second }
     ensures { IsPassTo 2 host.now result.0.0 × IsPassTo 2 host.now result.1.0 }
 {
     join(
         rt,
-        || -> (Pass<Slow<Kept>>, Option<Submitted>)
+        || -> (Pass<J>, Option<Submitted>)
             requires { IsSync R.row × IsPassTo 2 host.now first }
             ensures { IsPassTo 2 host.entry.now result.0 }
         { submit_on(rt, alloc, host, first, 0, Sub::Draw { count: 1 }) },
-        || -> (Pass<Slow<Kept>>, Option<Submitted>)
+        || -> (Pass<J>, Option<Submitted>)
             requires { IsSync R.row × IsPassTo 2 host.now second }
             ensures { IsPassTo 2 host.entry.now result.0 }
         {
@@ -165,10 +165,7 @@ fn run_once<R: Threads + Wait + Sync>(rt: &R, alloc: Global) -> Option<bool> {
     let changed = slow_document(alloc, Part::Changed, &far)?;
     let pulled = slow_document(alloc, Part::Pulled, &far)?;
     let (host, mut first) = host_of_two(alloc, changed, pulled, 2)?;
-    if first.free() == 0 {
-        return None;
-    }
-    let second = host.split_pass(alloc, &mut first).ok()?;
+    let second = split_off(alloc, &host, &mut first)?;
     let ((mut all, drawn), (other, found)) = change_and_pull(rt, alloc, &host, first, second);
     host.join_pass(&mut all, other);
     if !all.whole() {
@@ -178,12 +175,16 @@ fn run_once<R: Threads + Wait + Sync>(rt: &R, alloc: Global) -> Option<bool> {
     let waited = docs.iter().all(|doc| !doc.gave_up);
     let fine = match (drawn, found) {
         (
-            Some(Submitted::Answered {
-                reply: Reply::Drawn { .. },
-            }),
-            Some(Submitted::Answered {
-                reply: Reply::Pulled { .. },
-            }),
+            Some(
+                Submitted::Answered {
+                    reply: Reply::Drawn { .. },
+                },
+            ),
+            Some(
+                Submitted::Answered {
+                    reply: Reply::Pulled { .. },
+                },
+            ),
         ) => true,
         _ => false,
     };

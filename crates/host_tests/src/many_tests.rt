@@ -4,9 +4,9 @@ ghost use Rattle.std.specs.Thread.{IsSync};
 ghost use Rattle.host_tests.specs.Hosts.{IsPassTo};
 
 use crate::replies::{CALLERS, Told, is_one_thread};
-use crate::test_hosts::{Kept, host_of_one, new_document, submit};
+use crate::test_hosts::{host_of_one, new_document, split_off, submit};
 use compact_values::Guid;
-use doc_host::{Host, Pass};
+use doc_host::{Host, Journaled, Pass};
 use doc_model::{Code, LockStep, Reply, Sub, Submitted};
 use std::alloc::{AllocError, Global};
 use std::sync::Wait;
@@ -28,8 +28,8 @@ const HOUR: u64 = 3_600;
 
 // What a thread brings back: its pass, and what it was told.
 #[derive(Drop)]
-struct Course {
-    pass: Pass<Kept>,
+struct Course<J: Journaled> {
+    pass: Pass<J>,
     told: Vec<Told>,
 }
 
@@ -50,11 +50,11 @@ fn told_of(submitted: Option<Submitted>) -> Told {
 }
 
 // One call of the thread with this pass, whose kind goes by the round: a number, the lock or its end, or the front.
-fn call_once<R: Wait>(
+fn call_once<J: Journaled, R: Wait>(
     rt: &R,
     alloc: Global,
-    host: &Host<Kept>,
-    pass: &mut Pass<Kept>,
+    host: &Host<J>,
+    pass: &mut Pass<J>,
     round: u32,
     holds: bool,
 ) -> Told
@@ -84,12 +84,12 @@ fn call_once<R: Wait>(
 }
 
 // All calls of one thread.
-fn call_many<R: Wait>(
+fn call_many<J: Journaled, R: Wait>(
     rt: &R,
     alloc: Global,
-    host: &Host<Kept>,
-    mut pass: Pass<Kept>,
-) -> Course
+    host: &Host<J>,
+    mut pass: Pass<J>,
+) -> Course<J>
     requires { IsPassTo 1 host.now pass }
     ensures { IsPassTo 1 host.now result.pass }
 {
@@ -110,21 +110,14 @@ fn call_many<R: Wait>(
 }
 
 // The passes of all callers, the first of which is cut.
-fn split_all(
-    alloc: Global,
-    host: &Host<Kept>,
-    first: Pass<Kept>,
-) -> Option<Vec<Pass<Kept>>>
+fn split_all<J: Journaled>(alloc: Global, host: &Host<J>, first: Pass<J>) -> Option<Vec<Pass<J>>>
     requires { IsPassTo 1 host.now first }
     ensures { IfSome result (λ v. All (IsPassTo 1 host.now) v.items) }
 {
     let mut first = first;
     let mut passes = Vec::new(alloc);
     for _ in 1..CALLERS {
-        if first.free() == 0 {
-            return None;
-        }
-        let pass = host.split_pass(alloc, &mut first).ok()?;
+        let pass = split_off(alloc, host, &mut first)?;
         passes.push(pass).ok()?;
     }
     passes.push(first).ok()?;
@@ -132,19 +125,19 @@ fn split_all(
 }
 
 // Each pass calls in a thread of its own.
-fn call_in_threads<R: Threads + Wait + Sync>(
+fn call_in_threads<J: Journaled + Send, R: Threads + Wait + Sync>(
     rt: &R,
     alloc: Global,
-    host: &Host<Kept>,
-    passes: Vec<Pass<Kept>>,
-) -> Result<Vec<Course>, AllocError>
+    host: &Host<J>,
+    passes: Vec<Pass<J>>,
+) -> Result<Vec<Course<J>>, AllocError>
     requires { All (IsPassTo 1 host.now) passes.items }
     ensures { IfOk result (λ v. All (λ c. IsPassTo 1 host.now c.pass) v.items) }
 {
     map_vec(
         rt,
         passes,
-        &|pass: Pass<Kept>| -> Course
+        &|pass: Pass<J>| -> Course<J>
             requires { IsSync R.row × IsPassTo 1 host.now pass }
             ensures { IsPassTo 1 host.entry.now result.pass }
         { call_many(rt, alloc, host, pass) },
@@ -152,12 +145,16 @@ fn call_in_threads<R: Threads + Wait + Sync>(
 }
 
 // What all threads were told. None where they told less.
-fn all_told(alloc: Global, courses: Vec<Course>) -> Option<Vec<Vec<Told>>> {
+fn all_told<J: Journaled>(alloc: Global, courses: Vec<Course<J>>) -> Option<Vec<Vec<Told>>> {
     let mut told = Vec::new(alloc);
     for course in courses {
         told.push(course.told).ok()?;
     }
-    if told.len() == CALLERS { Some(told) } else { None }
+    if told.len() == CALLERS {
+        Some(told)
+    } else {
+        None
+    }
 }
 
 // One run on a new document: whether its threads can have been one.
@@ -205,8 +202,20 @@ fn what_one_thread_could_not_be_told_is_found(rt: HostRuntime) -> Result<(), Fai
     assert!(rt; can_be_told(alloc, &[one], &[one]) == Some(false));
     assert!(rt; can_be_told(alloc, &[two], &[one, all, none]) == Some(false));
     assert!(rt; can_be_told(alloc, &[one, none], &[two]) == Some(false));
-    assert!(rt; can_be_told(alloc, &[Told::Taken, Told::Dropped], &[Told::Taken, Told::Refused]) == Some(false));
-    assert!(rt; can_be_told(alloc, &[Told::Taken, Told::Dropped], &[Told::Refused, Told::Taken]) == Some(true));
+    assert!(rt;
+        can_be_told(
+            alloc,
+            &[Told::Taken, Told::Dropped],
+            &[Told::Taken, Told::Refused]
+        ) == Some(false)
+    );
+    assert!(rt;
+        can_be_told(
+            alloc,
+            &[Told::Taken, Told::Dropped],
+            &[Told::Refused, Told::Taken]
+        ) == Some(true)
+    );
     assert!(rt; can_be_told(alloc, &[Told::Taken], &[Told::Taken]) == Some(false));
     assert!(rt; can_be_told(alloc, &[Told::Dropped], &[]) == Some(false));
     assert!(rt; can_be_told(alloc, &[Told::Other], &[]) == Some(false));

@@ -52,24 +52,40 @@ impl State {
             Told::Drawn { number } => {
                 next.drawn = next.drawn.saturating_add(1);
                 next.changes = next.changes.saturating_add(1);
-                if number == next.drawn { Some(next) } else { None }
+                if number == next.drawn {
+                    Some(next)
+                } else {
+                    None
+                }
             }
             Told::Taken => {
                 next.holder = Some(caller);
                 next.changes = next.changes.saturating_add(1);
-                if self.holder.is_none() { Some(next) } else { None }
+                if self.holder.is_none() {
+                    Some(next)
+                } else {
+                    None
+                }
             }
             Told::Dropped => {
                 next.holder = None;
                 next.changes = next.changes.saturating_add(1);
-                if self.holder == Some(caller) { Some(next) } else { None }
+                if self.holder == Some(caller) {
+                    Some(next)
+                } else {
+                    None
+                }
             }
             Told::Refused => match self.holder {
                 Some(holder) if holder != caller => Some(next),
                 _ => None,
             },
             Told::Front { count } => {
-                if count == self.changes { Some(next) } else { None }
+                if count == self.changes {
+                    Some(next)
+                } else {
+                    None
+                }
             }
             Told::Other => None,
         }
@@ -95,11 +111,7 @@ impl State {
 
 // The states that one more reply leads to. A reply that changes nothing can be given at once where it can be given at all, so it
 // leads to the only one that has to be looked at.
-fn successors(
-    states: &mut Vec<State>,
-    told: &[Vec<Told>],
-    state: State,
-) -> Result<(), NoMemory> {
+fn successors(states: &mut Vec<State>, told: &[Vec<Told>], state: State) -> Result<(), NoMemory> {
     let mut moving = [None; CALLERS];
     for caller in 0..CALLERS {
         let Some(said) = state.next(told, caller) else {

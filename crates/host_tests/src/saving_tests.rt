@@ -2,9 +2,9 @@
 ghost use Rattle.std.specs.Thread.{IsSync};
 ghost use Rattle.host_tests.specs.Hosts.{IsPassTo};
 
-use crate::test_hosts::{Kept, host_of_one, new_document, submit};
+use crate::test_hosts::{host_of_one, new_document, split_off, submit};
 use compact_values::{ExGuid, Guid, Seq};
-use doc_host::{Host, Pass};
+use doc_host::{Host, Journaled, Pass};
 use doc_model::{Code, Knowledge, LockStep, Put, Reply, Sub, Submitted};
 use file_nodes::{Chunked, chunk};
 use std::alloc::Global;
@@ -39,8 +39,8 @@ struct Link {
 
 // What a thread brings back: its pass, what it committed, and how often something was said that mustn't be.
 #[derive(Drop)]
-struct Course {
-    pass: Pass<Kept>,
+struct Course<J: Journaled> {
+    pass: Pass<J>,
     links: Vec<Link>,
     faults: u32,
 }
@@ -75,19 +75,21 @@ fn became_of(submitted: Option<Submitted>) -> Saved {
 // Whether a step of the lock was done.
 fn is_done(submitted: Option<Submitted>) -> bool {
     match submitted {
-        Some(Submitted::Answered {
-            reply: Reply::Done | Reply::Locked { .. },
-        }) => true,
+        Some(
+            Submitted::Answered {
+                reply: Reply::Done | Reply::Locked { .. },
+            },
+        ) => true,
         _ => false,
     }
 }
 
 // The stored index, by a pull.
-fn pulled<R: Wait>(
+fn pulled<J: Journaled, R: Wait>(
     rt: &R,
     alloc: Global,
-    host: &Host<Kept>,
-    pass: &mut Pass<Kept>,
+    host: &Host<J>,
+    pass: &mut Pass<J>,
 ) -> Option<ExGuid>
     requires { IsPassTo 1 host.now pass.old }
     ensures { IsPassTo 1 host.now pass.new }
@@ -96,17 +98,26 @@ fn pulled<R: Wait>(
         ranges: Seq::new(alloc),
     };
     match submit(rt, alloc, host, pass, 0, Sub::Pull { knowledge }) {
-        Some(Submitted::Answered {
-            reply: Reply::Pulled { index, .. },
-        }) => Some(index),
+        Some(
+            Submitted::Answered {
+                reply: Reply::Pulled { index, .. },
+            },
+        ) => Some(index),
         _ => None,
     }
 }
 
 // A save of a small file, made from this index.
-fn put_on(alloc: Global, expected: ExGuid, lock: Option<Guid>, guid: Guid) -> Option<(ExGuid, Sub)> {
+fn put_on(
+    alloc: Global,
+    expected: ExGuid,
+    lock: Option<Guid>,
+    guid: Guid,
+) -> Option<(ExGuid, Sub)> {
     let Chunked {
-        index, elements, ..
+        index,
+        elements,
+        ..
     } = chunk(alloc, FILE.as_slice(), guid, 1).ok()?;
     let put = Put {
         index,
@@ -122,11 +133,11 @@ fn put_on(alloc: Global, expected: ExGuid, lock: Option<Guid>, guid: Guid) -> Op
 }
 
 // Pulls, and saves on what was pulled.
-fn save_once<R: Wait>(
+fn save_once<J: Journaled, R: Wait>(
     rt: &R,
     alloc: Global,
-    host: &Host<Kept>,
-    pass: &mut Pass<Kept>,
+    host: &Host<J>,
+    pass: &mut Pass<J>,
     lock: Option<Guid>,
     guid: Guid,
 ) -> Option<(Link, Saved)>
@@ -140,11 +151,11 @@ fn save_once<R: Wait>(
 }
 
 // Takes the lock, saves under it, and gives it back. Nobody else can have committed behind the pull. None where it is another's.
-fn save_locked<R: Wait>(
+fn save_locked<J: Journaled, R: Wait>(
     rt: &R,
     alloc: Global,
-    host: &Host<Kept>,
-    pass: &mut Pass<Kept>,
+    host: &Host<J>,
+    pass: &mut Pass<J>,
     id: Guid,
     guid: Guid,
 ) -> Option<(Link, Saved)>
@@ -166,11 +177,11 @@ fn save_locked<R: Wait>(
 }
 
 // Reads the front, saves, and reads it again: it has grown by what was committed at least.
-fn save_between_fronts<R: Wait>(
+fn save_between_fronts<J: Journaled, R: Wait>(
     rt: &R,
     alloc: Global,
-    host: &Host<Kept>,
-    pass: &mut Pass<Kept>,
+    host: &Host<J>,
+    pass: &mut Pass<J>,
     round: u32,
 ) -> Option<(Link, Saved)>
     requires { IsPassTo 1 host.now pass.old }
@@ -195,12 +206,12 @@ fn save_between_fronts<R: Wait>(
 }
 
 // All saves of one thread.
-fn save_many<R: Wait>(
+fn save_many<J: Journaled, R: Wait>(
     rt: &R,
     alloc: Global,
-    host: &Host<Kept>,
-    mut pass: Pass<Kept>,
-) -> Course
+    host: &Host<J>,
+    mut pass: Pass<J>,
+) -> Course<J>
     requires { IsPassTo 1 host.now pass }
     ensures { IsPassTo 1 host.now result.pass }
 {
@@ -223,23 +234,23 @@ fn save_many<R: Wait>(
     }
 }
 
-fn save_in_two_threads<R: Threads + Wait + Sync>(
+fn save_in_two_threads<J: Journaled + Send, R: Threads + Wait + Sync>(
     rt: &R,
     alloc: Global,
-    host: &Host<Kept>,
-    first: Pass<Kept>,
-    second: Pass<Kept>,
-) -> (Course, Course)
+    host: &Host<J>,
+    first: Pass<J>,
+    second: Pass<J>,
+) -> (Course<J>, Course<J>)
     requires { IsPassTo 1 host.now first × IsPassTo 1 host.now second }
     ensures { IsPassTo 1 host.now result.0.pass × IsPassTo 1 host.now result.1.pass }
 {
     join(
         rt,
-        || -> Course
+        || -> Course<J>
             requires { IsSync R.row × IsPassTo 1 host.now first }
             ensures { IsPassTo 1 host.entry.now result.pass }
         { save_many(rt, alloc, host, first) },
-        || -> Course
+        || -> Course<J>
             requires { IsSync R.row × IsPassTo 1 host.now second }
             ensures { IsPassTo 1 host.entry.now result.pass }
         { save_many(rt, alloc, host, second) },
@@ -276,10 +287,7 @@ fn run_once<R: Threads + Wait + Sync>(
 ) -> Option<(Option<ExGuid>, ExGuid, usize, u32)> {
     let doc = new_document(alloc, ROOM, DISK_CALLS)?;
     let (host, mut first) = host_of_one(alloc, doc, 2)?;
-    if first.free() == 0 {
-        return None;
-    }
-    let second = host.split_pass(alloc, &mut first).ok()?;
+    let second = split_off(alloc, &host, &mut first)?;
     let (one, other) = save_in_two_threads(rt, alloc, &host, first, second);
     let faults = one.faults.saturating_add(other.faults);
     let mut links = one.links;

@@ -2,6 +2,8 @@
 // has to prove it.
 ghost use Rattle.std.specs.Prelude.{◌≡◌, ◌<◌, ◌≤◌, [], IsTrue, IfSome, length};
 ghost use Rattle.change_record.specs.Changes.{IsShort};
+ghost use Rattle.doc_host.specs.declared.limits.TheConstants.{MOST_PASSES};
+ghost use Rattle.doc_host.specs.Views.{IsPassOf};
 ghost use Rattle.host_tests.specs.Hosts.{IsPassTo};
 ghost use Rattle.journaled_doc.specs.Docs.{history};
 
@@ -42,7 +44,7 @@ pub fn new_document(alloc: Global, room: usize, calls: usize) -> Option<Kept>
 /// A host of one document, and its first pass.
 pub fn host_of_one<J: Journaled>(alloc: Global, doc: J, seats: u32) -> Option<(Host<J>, Pass<J>)>
     requires opened { J.history doc ≡ [] }
-    requires seats { (1 ≤ seats) × (seats ≤ 64) }
+    requires seats { (1 ≤ seats) × (seats ≤ MOST_PASSES) }
     ensures { IfSome result (λ r. IsPassTo 1 r.0 r.1) }
 {
     let mut docs = Vec::with_capacity(alloc, 1).ok()?;
@@ -58,13 +60,25 @@ pub fn host_of_two<J: Journaled>(
     seats: u32,
 ) -> Option<(Host<J>, Pass<J>)>
     requires opened { (J.history first ≡ []) × (J.history second ≡ []) }
-    requires seats { (1 ≤ seats) × (seats ≤ 64) }
+    requires seats { (1 ≤ seats) × (seats ≤ MOST_PASSES) }
     ensures { IfSome result (λ r. IsPassTo 2 r.0 r.1) }
 {
     let mut docs = Vec::with_capacity(alloc, 2).ok()?;
     docs.push_reserved(first);
     docs.push_reserved(second);
     Host::new(alloc, docs, seats).ok()
+}
+
+/// A pass with a number and half of the turns of this one. None where this one has no number to give.
+pub fn split_off<J: Journaled>(alloc: Global, host: &Host<J>, pass: &mut Pass<J>) -> Option<Pass<J>>
+    requires { IsPassOf host.now pass.old }
+    ensures kept { IsPassOf host.now pass.new }
+    ensures new { IfSome result (IsPassOf host.now) }
+{
+    if pass.free() == 0 {
+        return None;
+    }
+    host.split_pass(alloc, pass).ok()
 }
 
 fn is_short(alloc: Global, call: &Call) -> bool
