@@ -64,7 +64,7 @@ fn call_once<J: Journaled, R: Wait>(
     let id = Guid {
         number: 1 + pass.number() as u128,
     };
-    let kind = (round + pass.number() % 4) % 4;
+    let kind = (round % 4 + pass.number() % 4) % 4;
     if kind == 0 {
         return Told::Front {
             count: host.front(pass, 0),

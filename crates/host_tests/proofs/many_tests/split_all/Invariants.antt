@@ -3,4 +3,4 @@ use Rattle.host_tests.specs.Hosts.{IsPassTo}
 use Rattle.host_tests.proofs.many_tests.split_all.Given as goal
 
 abbrev pub invariant-loop : goal.invariant-loop
-invariant-loop l = IsPassTo 1 l.host l.first × All (IsPassTo 1 l.host) l.passes.items
+invariant-loop g l = IsPassTo 1 l.host l.first × All (IsPassTo 1 l.host) l.passes.items
