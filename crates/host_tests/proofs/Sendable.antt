@@ -1,9 +1,6 @@
 -- The documents of the tests may go to any thread.
-use Prim.Native.Nat.{ℕ}
-use denote.RattleType.{RattleType}
-use denote.Param.{param}
 use denote.Struct.Declared.{shape}
-use denote.Param.Send.{IsSend, param_send, recorded_send, struct_send, sendable}
+use denote.Param.Send.{IsSend, recorded_send, struct_send, sendable}
 use Rattle.std.proofs.Crossing.{crosses}
 use Rattle.compact_values.specs.contracts.text.Text as text
 use Rattle.host_edge.specs.contracts.mem_disk.MemDisk as disk
@@ -12,73 +9,50 @@ use Rattle.plain_core.specs.contracts.plain.PlainCore as core
 use Rattle.plain_core.specs.contracts.plain.Change as change
 use Rattle.plain_core.specs.contracts.plain.PlainCoreCore.TheImpl as core_impl
 use Rattle.doc_model.specs.contracts.doc.Commit as commit
-use Rattle.doc_model.specs.contracts.doc.Doc as doc
 use Rattle.doc_model.specs.contracts.doc.Part as part
 use Rattle.doc_model.specs.contracts.editor.Editor as editor
 use Rattle.doc_model.specs.contracts.element.Element as element
-use Rattle.doc_model.specs.contracts.lock.LockRecord as lock
 use Rattle.atomic_table.proofs.send_lease.SendLease.TheSendSync as lease
 use Rattle.atomic_table.proofs.shared.Seat.TheSendSync as seat
 use Rattle.atomic_table.proofs.shared.Shared.TheSendSync as shared
-use Rattle.cell_journal.specs.contracts.state.Journal as journal
 use Rattle.doc_story.specs.contracts.story.Story as story
-use Rattle.doc_story.specs.contracts.told.Noted as noted
 use Rattle.journaled_doc.specs.contracts.doc.JournaledDoc as journaled
-use Rattle.journaled_doc.specs.contracts.kept.Kept as kept
 use Rattle.doc_host.specs.contracts.document.Document as document
 
-pub disk_send : IsSend disk.the_row
+-- What is searched for is built up from below, since a search for the whole takes too many steps.
+disk_send : IsSend disk.the_row
 disk_send = search (sendable, crosses) depth 40 fits 10000
 
-pub text_send : IsSend text.the_row
+text_send : IsSend text.the_row
 text_send = search (sendable, crosses) depth 40 fits 10000
 
-pub lock_send : IsSend lock.the_row
-lock_send = search (sendable, crosses) depth 40 fits 10000
-
-pub commit_send : IsSend commit.the_row
+commit_send : IsSend commit.the_row
 commit_send = search (sendable, crosses, text_send) depth 40 fits 10000
 
-pub editor_send : IsSend editor.the_row
+editor_send : IsSend editor.the_row
 editor_send = search (sendable, crosses, text_send) depth 40 fits 10000
 
-pub element_send : IsSend element.the_row
+element_send : IsSend element.the_row
 element_send = search (sendable, crosses) depth 60 fits 10000
 
-pub part_send : IsSend part.the_row
-part_send = search (sendable, crosses, text_send, element_send) depth 40 fits 10000
+part_send : IsSend part.the_row
+part_send = search (sendable, crosses, element_send) depth 40 fits 10000
 
-pub doc_send : IsSend doc.the_row
-doc_send = search (sendable, crosses, lock_send, commit_send, editor_send, element_send, part_send) depth 40 fits 10000
-
-pub core_send : IsSend core.the_row
-core_send = search (sendable, crosses, doc_send, lock_send, commit_send, editor_send, element_send, part_send) depth 40 fits 10000
-
-noted_send : (i : ℕ) → IsSend (noted.the_row (param i disk.the_row))
-noted_send i = search (sendable, crosses) depth 40 fits 10000
+core_send : IsSend core.the_row
+core_send = search (sendable, crosses, commit_send, editor_send, element_send, part_send) depth 40 fits 10000
 
 story_send : IsSend (story.the_field disk.the_row).row
-story_send = search (sendable, crosses, noted_send, seat.the_send, shared.the_send, lease.the_send) depth 40 fits 10000
+story_send = search (sendable, crosses, seat.the_send, shared.the_send, lease.the_send) depth 40 fits 10000
 
 journaled_send : IsSend (journaled.the_field core.the_row disk.the_row).row
 journaled_send = struct_send (shape (journaled.the_type core.the_row disk.the_row)) (
   search (sendable, crosses, core_send) depth 40 fits 10000,
-  (
-    search (sendable, crosses, disk_send) depth 40 fits 10000,
-    (
-      search (sendable, crosses, story_send) depth 40 fits 10000,
-      (
-        search (sendable, crosses) depth 40 fits 10000,
-        (
-          search (sendable, crosses) depth 40 fits 10000,
-          (
-            search sendable,
-            tt,
-          ),
-        ),
-      ),
-    ),
-  ),
+  search (sendable, crosses, disk_send) depth 40 fits 10000,
+  search (sendable, crosses, story_send) depth 40 fits 10000,
+  search (sendable, crosses) depth 40 fits 10000,
+  search (sendable, crosses) depth 40 fits 10000,
+  search sendable,
+  tt,
 )
 
 pub kept_send : IsSend (document.the_row core.the_row disk.the_row change.the_row core_impl.ghosts disk_impl.ghosts)

@@ -1,5 +1,5 @@
 // Four threads on one document, many times: what they were told can have been told by one thread.
-ghost use Rattle.std.specs.Prelude.{All, IfOk, IfSome};
+ghost use Rattle.std.specs.Prelude.{All, IfOk};
 ghost use Rattle.std.specs.Thread.{IsSync};
 ghost use Rattle.host_tests.specs.Hosts.{IsPassTo};
 
@@ -110,18 +110,24 @@ fn call_many<J: Journaled, R: Wait>(
 }
 
 // The passes of all callers, the first of which is cut.
-fn split_all<J: Journaled>(alloc: Global, host: &Host<J>, first: Pass<J>) -> Option<Vec<Pass<J>>>
+fn split_all<J: Journaled>(
+    alloc: Global,
+    host: &Host<J>,
+    first: Pass<J>,
+) -> Result<Vec<Pass<J>>, AllocError>
     requires { IsPassTo 1 host.now first }
-    ensures { IfSome result (λ v. All (IsPassTo 1 host.now) v.items) }
+    ensures { IfOk result (λ v. All (IsPassTo 1 host.now) v.items) }
 {
     let mut first = first;
     let mut passes = Vec::new(alloc);
     for _ in 1..CALLERS {
-        let pass = split_off(alloc, host, &mut first)?;
-        passes.push(pass).ok()?;
+        let Some(pass) = split_off(alloc, host, &mut first) else {
+            break;
+        };
+        passes.push(pass)?;
     }
-    passes.push(first).ok()?;
-    Some(passes)
+    passes.push(first)?;
+    Ok(passes)
 }
 
 // Each pass calls in a thread of its own.
@@ -161,7 +167,7 @@ fn all_told<J: Journaled>(alloc: Global, courses: Vec<Course<J>>) -> Option<Vec<
 fn run_once<R: Threads + Wait + Sync>(rt: &R, alloc: Global) -> Option<bool> {
     let doc = new_document(alloc, ROOM, DISK_CALLS)?;
     let (host, first) = host_of_one(alloc, doc, CALLERS as u32)?;
-    let passes = split_all(alloc, &host, first)?;
+    let passes = split_all(alloc, &host, first).ok()?;
     let courses = call_in_threads(rt, alloc, &host, passes).ok()?;
     let told = all_told(alloc, courses)?;
     is_one_thread(alloc, told.as_slice()).ok()
