@@ -47,12 +47,10 @@ story_send = search (sendable, crosses, seat.the_send, shared.the_send, lease.th
 journaled_send : IsSend (journaled.the_field core.the_row disk.the_row).row
 journaled_send = struct_send (shape (journaled.the_type core.the_row disk.the_row)) (
   search (sendable, crosses, core_send) depth 40 fits 10000,
-  search (sendable, crosses, disk_send) depth 40 fits 10000,
-  search (sendable, crosses, story_send) depth 40 fits 10000,
-  search (sendable, crosses) depth 40 fits 10000,
-  search (sendable, crosses) depth 40 fits 10000,
-  search sendable,
-  tt,
+  (
+    search (sendable, crosses, disk_send) depth 40 fits 10000,
+    (search (sendable, crosses, story_send) depth 40 fits 10000, (search (sendable, crosses) depth 40 fits 10000, (search (sendable, crosses) depth 40 fits 10000, (search sendable, tt)))),
+  ),
 )
 
 pub kept_send : IsSend (document.the_row core.the_row disk.the_row change.the_row core_impl.ghosts disk_impl.ghosts)
