@@ -8,19 +8,19 @@ use Rattle.wire_kinds.specs.Kind.{Kind, Spells}
 use Rattle.wire_kinds.specs.Kind as values
 use Rattle.wire_kinds.specs.Code.{Code}
 use Rattle.wire_kinds.specs.Code as value_codes
-use Rattle.doc_model.specs.rules.Histories.{can_lock, can_move}
+use Rattle.doc_model.specs.rules.Changes.{can_lock, can_move}
 use Rattle.doc_model.specs.declared.call.Sub.{Sub}
 use Rattle.doc_model.specs.declared.call.Sub.TheVariants as sub
 use Rattle.doc_model.specs.declared.editor.EditorStep.{EditorStep}
 use Rattle.doc_model.specs.declared.editor.EditorStep.TheVariants.{Join, Leave, Refresh, SetKey, RemoveKey}
 use Rattle.doc_model.specs.declared.lock.LockStep.{LockStep}
 use Rattle.doc_model.specs.declared.lock.LockStep.TheVariants.{TakeExclusive, DropExclusive, RefreshExclusive, CheckExclusive, ToShared, TakeShared, DropShared, RefreshShared, ToExclusive, CheckShared, Status, Mark}
-use Rattle.change_record.specs.Changes.{lock_bytes, edit_bytes, kind_of, asked_bytes}
+use Rattle.doc_model.specs.wire.ChangeBodies.{lock_bytes, edit_bytes, kind_of, asked_bytes}
 use Rattle.change_record.specs.Codes as codes
 use Rattle.change_record.specs.FittingCalls.{FitsLock, FitsEdit, FitsAsked}
-use Rattle.change_record.specs.Kinds.{tag}
-use Rattle.change_record.specs.Rows as rows
-use Rattle.change_record.specs.Rows.{numbered}
+use Rattle.doc_model.specs.wire.ChangeKinds.{tag}
+use Rattle.doc_model.specs.wire.ChangeRows as rows
+use Rattle.doc_model.specs.wire.ChangeRows.{numbered}
 use Rattle.change_record.specs.Steps.{lock_of, edit_of, asked_of}
 
 -- a row in front

@@ -12,12 +12,13 @@ use Rattle.doc_model.specs.declared.call.Put.{Put}
 use Rattle.doc_model.specs.declared.call.Sub.{Sub}
 use Rattle.doc_model.specs.declared.call.Sub.TheVariants as sub
 use Rattle.doc_model.specs.declared.element.Element.{Element}
-use Rattle.change_record.specs.Changes.{put_flags, put_element_bytes, head_of, put_bytes, kind_of, front_of, asked_bytes, change_bytes, IsChange}
+use Rattle.doc_model.specs.wire.ChangeBodies.{put_flags, put_element_bytes, head_of, put_bytes, kind_of, front_of, asked_bytes, change_bytes}
+use Rattle.change_record.specs.Changes.{IsChange}
 use Rattle.change_record.specs.Codes as codes
 use Rattle.change_record.specs.FittingCalls.{FitsPut, FitsCall}
 use Rattle.change_record.specs.Elements.{IsWritable, AreElements}
 use Rattle.change_record.specs.Asking.{IsPut, IsAsked}
-use Rattle.change_record.specs.Rows as rows
+use Rattle.doc_model.specs.wire.ChangeRows as rows
 use Rattle.change_record.proofs.Again.{front_again}
 use Rattle.change_record.proofs.Flags.{unpacks, packed_small}
 

@@ -1,7 +1,7 @@
 -- The flags of an upload are read again from its flag byte.
 use Rattle.std.proofs.Common.{◌≡◌, ℕ, ◌+◌, ◌*◌, ◌<◌, ◌≤◌, Bool, true, false, refl, arith}
 use Rattle.std.specs.Prelude.{◌/◌, ◌%◌, ◌==◌}
-use Rattle.change_record.specs.Kinds.{bit}
+use Rattle.doc_model.specs.wire.ChangeKinds.{bit}
 
 abbrev pub packed : Bool → Bool → Bool → Bool → ℕ
 packed a b c d = bit a + 2 * bit b + 4 * bit c + 128 * bit d

@@ -19,7 +19,7 @@ use Rattle.data_elements.specs.StandsAs.{StandsAs}
 use Rattle.data_elements.proofs.ElementLaws.{again_element}
 use Rattle.data_elements.proofs.ElementStands.{element_stands}
 use Rattle.data_elements.proofs.StandAlone.{at_all, stands_as}
-use Rattle.change_record.specs.Changes.{put_element_bytes}
+use Rattle.doc_model.specs.wire.ChangeBodies.{put_element_bytes}
 use Rattle.change_record.specs.Elements.{IsWritable, IsTreeOf, first_of}
 
 pub element_form : (e : Element) → IsWritable e → StandsAs (put_element_bytes e) (λ t. IsElementWith (put_element_bytes e) t Null e)

@@ -10,7 +10,8 @@ use Rattle.doc_model.specs.declared.call.Sub.{Sub}
 use Rattle.doc_model.specs.declared.call.Sub.TheVariants as sub
 use Rattle.doc_model.specs.declared.element.Element.{Element}
 use Rattle.data_elements.specs.Reading.{element_at}
-use Rattle.change_record.specs.Changes.{put_flags, put_element_bytes, head_of, put_bytes, kind_of, asked_bytes, IsChange}
+use Rattle.doc_model.specs.wire.ChangeBodies.{put_flags, put_element_bytes, head_of, put_bytes, kind_of, asked_bytes}
+use Rattle.change_record.specs.Changes.{IsChange}
 use Rattle.change_record.specs.FittingCalls.{FitsCall}
 use Rattle.change_record.specs.Elements.{IsWritable}
 use Rattle.change_record.specs.Asking.{IsPut, IsAsked}

@@ -9,8 +9,8 @@ use Rattle.doc_model.specs.declared.element.Element.{Element}
 use Rattle.doc_model.specs.declared.element.Body.{Body}
 use Rattle.doc_model.specs.declared.element.Body.TheVariants.{Group, Blob}
 use Rattle.stream_objects.specs.Headers.{written_start, written_end}
-use Rattle.change_record.specs.Changes.{put_element_bytes, head_of, put_bytes, front_of, asked_bytes, change_bytes}
-use Rattle.change_record.specs.Rows as rows
+use Rattle.doc_model.specs.wire.ChangeBodies.{put_element_bytes, head_of, put_bytes, front_of, asked_bytes, change_bytes}
+use Rattle.doc_model.specs.wire.ChangeRows as rows
 use Rattle.doc_model.specs.declared.call.Call.{Call}
 use Rattle.doc_model.specs.declared.call.Put.{Put}
 use Rattle.doc_model.specs.declared.call.Sub.{Sub}

@@ -8,7 +8,7 @@ use Rattle.compact_values.specs.Items.{item}
 use Rattle.compact_values.specs.declared.ids.Serial.TheVariants.{Null}
 use Rattle.stream_objects.specs.Headers.{end_bytes, end_form}
 use Rattle.stream_objects.specs.Written.{started, simple_object, compound_object}
-use Rattle.doc_model.specs.rules.Histories.{can_move}
+use Rattle.doc_model.specs.rules.Changes.{can_move}
 use Rattle.doc_model.specs.wire.WrittenElements.{data_bytes, data_fields, data_kind, datas_bytes, declarations_bytes, blob_bytes, kind_number, body_bytes, element_bytes}
 use Rattle.doc_model.specs.declared.call.Call.{Call}
 use Rattle.doc_model.specs.declared.call.Sub.{Sub}
@@ -17,7 +17,8 @@ use Rattle.doc_model.specs.declared.element.Object.{Object}
 use Rattle.doc_model.specs.declared.element.Body.{Body}
 use Rattle.doc_model.specs.declared.element.Body.TheVariants.{Index, Storage, Cell, Revision, Group, Blob}
 use Rattle.doc_model.specs.declared.element.Element.{Element}
-use Rattle.change_record.specs.Changes.{put_element_bytes, asked_bytes, most_body, IsShort, IsChange}
+use Rattle.doc_model.specs.wire.ChangeBodies.{put_element_bytes, asked_bytes}
+use Rattle.doc_model.specs.rules.Changes.{IsShort}
 use Rattle.change_record.specs.Sizes.{IsShortObject, IsShortBody, IsShortAsked}
 use Rattle.change_record.proofs.Bodies.{head_bytes, put_split, front_bytes, change_split}
 
@@ -73,6 +74,3 @@ short_sub sub.WhoAmI l = tt
 
 pub short_asked : (call : Call) → can_move call.sub ≡ true → IsShort call → IsShortAsked call.sub
 short_asked call kind short = short_sub call.sub (omega (arith, short kind, ap length (change_split call), behind (front_bytes call) (asked_bytes call.sub)))
-
-pub short_change : (call : Call) (bytes : List ℕ) → IsChange call bytes → IsShort call
-short_change call bytes is = λ kind. subst (λ (l : List ℕ). length l ≤ most_body) is.bytes_are is.short

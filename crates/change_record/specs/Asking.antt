@@ -1,7 +1,7 @@
 -- What a reader of changes is given.
 use Rattle.std.specs.Prelude.{◌≡◌, true}
 use Rattle.std.specs.List.{AllByRecursion}
-use Rattle.doc_model.specs.rules.Histories.{can_move}
+use Rattle.doc_model.specs.rules.Changes.{can_move}
 use Rattle.doc_model.specs.rules.Sound.{IsValidSub}
 use Rattle.doc_model.specs.declared.call.Put.{Put}
 use Rattle.doc_model.specs.declared.call.Sub.{Sub}

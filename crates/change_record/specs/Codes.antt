@@ -2,8 +2,8 @@
 use Rattle.compact_values.specs.Taking.{take_byte}
 use Rattle.wire_kinds.specs.Code.{Code, ◌▸◌, compact, guid, exguid, item}
 use Rattle.change_record.specs.Exact.{byte_exact, flag_exact, text_exact, carried_exact}
-use Rattle.change_record.specs.Kinds as kinds
-use Rattle.change_record.specs.Rows as rows
+use Rattle.doc_model.specs.wire.ChangeKinds as kinds
+use Rattle.doc_model.specs.wire.ChangeRows as rows
 use Rattle.change_record.specs.Taking.{take_flag, take_text, take_carried}
 
 -- ---- values

@@ -11,7 +11,7 @@ use Rattle.compact_values.specs.declared.guid.Guid.{Guid}
 use Rattle.compact_values.proofs.LittleEndian.{IsBytes}
 use Rattle.compact_values.proofs.Takes.{Takes, some_pair, takes_guid, takes_item}
 use Rattle.wire_kinds.specs.Kind.{Kind, Spells}
-use Rattle.change_record.specs.Kinds.{tag, byte, bit, flag, FitsText, text, carried_bytes, carried}
+use Rattle.doc_model.specs.wire.ChangeKinds.{tag, byte, bit, flag, FitsText, text, carried_bytes, carried}
 use Rattle.change_record.specs.Taking.{flag_of, with_rest, take_flag, text_of, text_first, take_text, some_first, carried_by, take_carried}
 
 -- The value stands in front of the rest.

@@ -11,8 +11,8 @@ use Rattle.doc_model.specs.declared.editor.EditorStep.{EditorStep}
 use Rattle.doc_model.specs.declared.editor.EditorStep.TheVariants.{Join, Leave, Refresh, SetKey, RemoveKey}
 use Rattle.doc_model.specs.declared.lock.LockStep.{LockStep}
 use Rattle.doc_model.specs.declared.lock.LockStep.TheVariants.{TakeExclusive, DropExclusive, RefreshExclusive, CheckExclusive, ToShared, TakeShared, DropShared, RefreshShared, ToExclusive, CheckShared, Status, Mark}
-use Rattle.change_record.specs.Kinds.{FitsText, FitsCarried}
-use Rattle.change_record.specs.Rows.{restored, timed, two, two_timed, two_flagged, three_flagged, keyed, entry}
+use Rattle.doc_model.specs.wire.ChangeKinds.{FitsText, FitsCarried}
+use Rattle.doc_model.specs.wire.ChangeRows.{restored, timed, two, two_timed, two_flagged, three_flagged, keyed, entry}
 
 pub record FitsPut (p : Put) : Type 0 where
   pub index : FitsExGuid p.index

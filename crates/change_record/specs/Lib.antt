@@ -1,5 +1,3 @@
-pub mod Kinds
-pub mod Rows
 pub mod Changes
 pub mod FittingCalls
 pub mod Taking

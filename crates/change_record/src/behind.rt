@@ -9,7 +9,7 @@ ghost use Rattle.doc_model.specs.wire.WrittenElements.{declaration_bytes, data_b
 ghost use Rattle.doc_model.specs.declared.element.Body.TheVariants.{Group, Blob};
 ghost use Rattle.doc_model.specs.declared.element.Content.TheVariants.{Inline, Apart};
 ghost use Rattle.change_record.specs.Behind.{IsBehind, element_head, data_front, blob_front};
-ghost use Rattle.change_record.specs.Changes.{put_element_bytes};
+ghost use Rattle.doc_model.specs.wire.ChangeBodies.{put_element_bytes};
 
 use compact_values::{ExGuid, NoMemory, Octets, Serial, write_cells, write_compact, write_ids};
 use data_elements::write_element;
@@ -294,7 +294,7 @@ fn behind_blob<'a>(
 }
 
 // What is behind an element of any kind, which is one piece.
-#[tactic(auto, unfolding(crate::specs::Changes::put_element_bytes))]
+#[tactic(auto, unfolding(doc_model::specs::wire::ChangeBodies::put_element_bytes))]
 fn behind_whole<'a>(
     piece: &mut Octets,
     bytes: &'a [u8],

@@ -4,7 +4,7 @@ ghost use Rattle.stream_objects.specs.declared.fault.TreeFault.TheVariants as tr
 ghost use Rattle.data_elements.specs.declared.fault.ElementFault.TheVariants as elements;
 ghost use Rattle.stream_objects.specs.Answers.{SpellsTree};
 ghost use Rattle.doc_model.specs.declared.element.Element.{Element};
-ghost use Rattle.change_record.specs.Changes.{put_element_bytes};
+ghost use Rattle.doc_model.specs.wire.ChangeBodies.{put_element_bytes};
 ghost use Rattle.change_record.specs.Elements.{AreElements, IsTreeOf, IsWritable, first_of};
 
 use compact_values::{NoMemory, Seq};

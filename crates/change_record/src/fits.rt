@@ -2,10 +2,10 @@
 // can tell. Each of these reads a value, which shows that it is so, and does nothing.
 ghost use Rattle.std.specs.Prelude.{◌≡◌, true};
 ghost use Rattle.std.specs.List.{All};
-ghost use Rattle.doc_model.specs.rules.Histories.{can_move};
-ghost use Rattle.change_record.specs.Changes.{IsShort};
+ghost use Rattle.doc_model.specs.rules.Changes.{can_move};
+ghost use Rattle.doc_model.specs.rules.Changes.{IsShort};
 ghost use Rattle.change_record.specs.FittingCalls.{FitsPut, FitsLock, FitsEdit, FitsAsked, FitsCall};
-ghost use Rattle.change_record.specs.Kinds.{FitsText, FitsCarried};
+ghost use Rattle.doc_model.specs.wire.ChangeKinds.{FitsText, FitsCarried};
 ghost use Rattle.change_record.specs.Sizes.{IsShortBody, IsShortAsked};
 
 use crate::fits_elements::{InRange, fits_elements};

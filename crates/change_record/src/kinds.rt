@@ -1,7 +1,7 @@
 // Values that only changes have, by their kinds: a byte, a flag, a text, and a lock id that may be carried.
 ghost use Rattle.std.specs.Prelude.{◌≡◌, ◌++◌, length, take, IfOk, OnOk, OnErr};
-ghost use Rattle.change_record.specs.Kinds.{tag, bit, flag, text, carried_bytes};
-ghost use Rattle.change_record.specs.Kinds as kinds;
+ghost use Rattle.doc_model.specs.wire.ChangeKinds.{tag, bit, flag, text, carried_bytes};
+ghost use Rattle.doc_model.specs.wire.ChangeKinds as kinds;
 ghost use Rattle.change_record.specs.Codes as codes;
 ghost use Rattle.change_record.specs.Taking.{text_of};
 
@@ -122,7 +122,7 @@ impl Carried {
 }
 
 /// Adds a byte at the end.
-#[tactic(auto, unfolding(crate::specs::Kinds::tag))]
+#[tactic(auto, unfolding(doc_model::specs::wire::ChangeKinds::tag))]
 pub fn write_tag(out: &mut Octets, byte: u8) -> Result<(), NoMemory>
     ensures ok { OnOk result (out.new ≡ out.old ++ tag byte) }
     ensures err { OnErr result (out.new ≡ out.old) }
@@ -145,7 +145,7 @@ impl Encode for Byte {
         write_tag(out, self.value)
     }
 
-    #[tactic(auto, unfolding(crate::specs::Kinds::tag))]
+    #[tactic(auto, unfolding(doc_model::specs::wire::ChangeKinds::tag))]
     fn size(&self) -> u64 {
         1
     }
@@ -171,7 +171,7 @@ impl Encode for Flag {
         write_tag(out, if self.set { 1 } else { 0 })
     }
 
-    #[tactic(auto, unfolding(crate::specs::Kinds::tag))]
+    #[tactic(auto, unfolding(doc_model::specs::wire::ChangeKinds::tag))]
     fn size(&self) -> u64 {
         1
     }
@@ -248,7 +248,7 @@ impl Encode for Carried {
         }
     }
 
-    #[tactic(auto, unfolding(crate::specs::Kinds::tag))]
+    #[tactic(auto, unfolding(doc_model::specs::wire::ChangeKinds::tag))]
     fn size(&self) -> u64 {
         match self.id {
             None => 1,

@@ -10,9 +10,10 @@
 //! - `steps`: what is asked, from its bytes
 //! - `elements`: the elements of an upload, from their bytes
 //! - `behind`: whether bytes begin with the elements of an upload
-//! - `valid`: whether a call may be made, and may move
+//! - `valid`: whether a call may be made
+//! - `moving`: whether a call is of a kind that may move
+//! - `sizes`: how long a body is
 //! - `fits`, `fits_elements`: numbers in the ranges of their fields
-//! - `limits`: how long a body may be
 //! - `fault`: why bytes are no body
 //! - `laws`: what holds of all bodies
 #![tactic(auto)]
@@ -24,8 +25,9 @@ mod fits;
 mod fits_elements;
 mod kinds;
 pub mod laws;
-pub mod limits;
+mod moving;
 mod read;
+mod sizes;
 mod steps;
 mod valid;
 mod write;
@@ -33,6 +35,7 @@ mod write_steps;
 
 pub use fault::ChangeFault;
 pub use fits::fits_call;
+pub use moving::can_move;
 pub use read::read_change;
-pub use valid::{can_move, is_valid};
+pub use valid::is_valid;
 pub use write::write_change;

@@ -1,13 +1,14 @@
 // Reading the body of a change. What the bytes ask is taken from them, and then they are compared with the body that it has.
 ghost use Rattle.std.specs.Prelude.{◌≡◌, ◌↔◌, true, IfOk, IsErrOf, IsTrue, Some};
 ghost use Rattle.std.specs.List.{flat_map};
-ghost use Rattle.doc_model.specs.rules.Histories.{can_move};
+ghost use Rattle.doc_model.specs.rules.Changes.{can_move};
 ghost use Rattle.doc_model.specs.rules.Sound.{Valid};
 ghost use Rattle.doc_model.specs.declared.call.Call.{Call};
 ghost use Rattle.doc_model.specs.declared.call.Put.{Put};
 ghost use Rattle.doc_model.specs.declared.call.Sub.{Sub};
 ghost use Rattle.doc_model.specs.declared.call.Sub.TheVariants as sub;
-ghost use Rattle.change_record.specs.Changes.{head_of, put_element_bytes, put_bytes, front_of, asked_bytes, kind_of, change_bytes, IsChange};
+ghost use Rattle.doc_model.specs.wire.ChangeBodies.{head_of, put_element_bytes, put_bytes, front_of, asked_bytes, kind_of, change_bytes};
+ghost use Rattle.change_record.specs.Changes.{IsChange};
 ghost use Rattle.change_record.specs.FittingCalls.{FitsCall};
 ghost use Rattle.change_record.specs.Asking.{IsPut, IsAsked};
 
@@ -16,9 +17,9 @@ use crate::elements::only_elements;
 use crate::fault::ChangeFault;
 use crate::fits::fits_call;
 use crate::kinds::{Byte, Carried, Words};
-use crate::limits::MOST_BODY;
+use crate::moving::can_move;
 use crate::steps::asked_of;
-use crate::valid::{can_move, is_valid};
+use crate::valid::is_valid;
 use crate::write::{write_change, write_front, write_head};
 use compact_values::{ExGuid, NoMemory, Octets};
 use doc_model::{Call, Put, Sub};
@@ -136,14 +137,13 @@ fn is_body(alloc: Global, bytes: &[u8], call: &Call) -> Result<bool, NoMemory>
 fn is_change(alloc: Global, bytes: &[u8], call: &Call) -> Result<bool, NoMemory>
     ensures { IfOk result (λ is. IsTrue is ↔ IsChange call.now bytes.now) }
 {
-    if bytes.len() > MOST_BODY || !can_move(&call.sub) || !is_valid(call) {
+    if !can_move(&call.sub) || !is_valid(call) {
         return Ok(false);
     }
     is_body(alloc, bytes, call)
 }
 
-/// The change whose body these bytes are: a call that may be made, of a kind that may move, with a body of at most
-/// [`MOST_BODY`](crate::limits::MOST_BODY) bytes. There is at most one.
+/// The change whose body these bytes are: a call that may be made, of a kind that may move. There is at most one.
 ///
 /// `NotAChange` comes exactly where there is none, or `NoMemory` in its place. The call is written again to be compared
 /// with the bytes, of an upload one piece after the other: each object of a group, and each other element.

@@ -1,12 +1,12 @@
-// Whether a call may be made, and is of a kind that may move.
-ghost use Rattle.std.specs.Prelude.{◌≡◌, ◌≤◌, ◌↔◌, All, IfSome, IsTrue, true};
+// Whether a call may be made.
+ghost use Rattle.std.specs.Prelude.{◌≡◌, ◌≤◌, ◌↔◌, All, IfSome, IsTrue};
 ghost use Rattle.doc_model.specs.rules.Editing.{editor_timeout_of};
-ghost use Rattle.doc_model.specs.rules.Histories.{can_lock, can_move};
 ghost use Rattle.doc_model.specs.rules.Limits.{most_objects};
 ghost use Rattle.doc_model.specs.rules.LockSteps.{timeout_of};
 ghost use Rattle.doc_model.specs.rules.Sound.{IsValidSub, IsValidTimeout, Valid};
 ghost use Rattle.doc_model.specs.rules.Weights.{objects_in, objects_written};
 
+use crate::sizes::is_short;
 use doc_model::limits::{DAY, MOST_ELEMENTS, MOST_OBJECTS};
 use doc_model::{Body, Call, EditorStep, Element, LockStep, Sub};
 
@@ -90,33 +90,10 @@ fn is_valid_sub(sub: &Sub) -> bool
     }
 }
 
-/// Whether the call may be made: its moment is below 2^40, a timeout is a minute to a day, and what is put is one package, each
-/// element written in few enough stream objects to be read again. How long its body is isn't judged.
+/// Whether the call may be made: its moment is below 2^40, a timeout is a minute to a day, what is put is one package, each
+/// element written in few enough stream objects to be read again, and the body of a change has at most 33,554,432 bytes.
 pub fn is_valid(call: &Call) -> bool
     ensures { IsTrue result ↔ Valid call.now }
 {
-    call.moment < MOMENTS && is_valid_sub(&call.sub)
-}
-
-fn can_lock(step: &LockStep) -> bool
-    ensures { result ≡ can_lock step.now }
-{
-    match step {
-        LockStep::CheckExclusive { .. }
-        | LockStep::CheckShared { .. }
-        | LockStep::Status { .. }
-        | LockStep::Mark { .. } => false,
-        _ => true,
-    }
-}
-
-/// Whether it is of a kind that may move a document, as `write_change` asks. The others only read.
-pub fn can_move(sub: &Sub) -> bool
-    ensures { result ≡ can_move sub.now }
-{
-    match sub {
-        Sub::Lock { step } => can_lock(step),
-        Sub::Put { .. } | Sub::Draw { .. } | Sub::Editor { .. } | Sub::Restore { .. } => true,
-        _ => false,
-    }
+    call.moment < MOMENTS && is_valid_sub(&call.sub) && is_short(call)
 }

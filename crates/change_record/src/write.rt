@@ -1,9 +1,9 @@
 // Writing the body of a change. Where memory runs out, what was written so far is dropped.
 ghost use Rattle.std.specs.Prelude.{◌≡◌, ◌++◌, true, OnOk, IfOk};
 ghost use Rattle.std.specs.List.{flat_map};
-ghost use Rattle.doc_model.specs.rules.Histories.{can_move};
-ghost use Rattle.change_record.specs.Changes.{put_flags, put_element_bytes, head_of, put_bytes, kind_of, front_of, asked_bytes, change_bytes};
-ghost use Rattle.change_record.specs.Rows.{front, head};
+ghost use Rattle.doc_model.specs.rules.Changes.{can_move};
+ghost use Rattle.doc_model.specs.wire.ChangeBodies.{put_flags, put_element_bytes, head_of, put_bytes, kind_of, front_of, asked_bytes, change_bytes};
+ghost use Rattle.doc_model.specs.wire.ChangeRows.{front, head};
 
 use crate::kinds::{Byte, Carried, write_tag, write_text};
 use crate::write_steps::{write_edit, write_lock};
@@ -25,7 +25,7 @@ fn put_flags(put: &Put) -> u8
 }
 
 // An element, with a null serial number.
-#[tactic(auto, unfolding(crate::specs::Changes::put_element_bytes))]
+#[tactic(auto, unfolding(doc_model::specs::wire::ChangeBodies::put_element_bytes))]
 fn write_put_element(out: &mut Octets, element: &Element) -> Result<(), NoMemory>
     ensures { OnOk result (out.new ≡ out.old ++ put_element_bytes element.now) }
 {
@@ -53,7 +53,7 @@ pub fn write_head(out: &mut Octets, put: &Put) -> Result<(), NoMemory>
 }
 
 // An upload.
-#[tactic(auto, unfolding(crate::specs::Changes::put_bytes))]
+#[tactic(auto, unfolding(doc_model::specs::wire::ChangeBodies::put_bytes))]
 fn write_put(out: &mut Octets, put: &Put) -> Result<(), NoMemory>
     ensures { OnOk result (out.new ≡ out.old ++ put_bytes put.now) }
 {
@@ -62,7 +62,7 @@ fn write_put(out: &mut Octets, put: &Put) -> Result<(), NoMemory>
 }
 
 // What is asked.
-#[tactic(auto, unfolding(crate::specs::Changes::asked_bytes))]
+#[tactic(auto, unfolding(doc_model::specs::wire::ChangeBodies::asked_bytes))]
 fn write_asked(out: &mut Octets, sub: &Sub) -> Result<(), NoMemory>
     ensures { OnOk result (out.new ≡ out.old ++ asked_bytes sub.now) }
 {
@@ -101,9 +101,9 @@ pub fn write_front(out: &mut Octets, call: &Call) -> Result<(), NoMemory>
 
 /// The body of a change, the one written form of the call. Only calls of the kinds that may move have one: an upload, a
 /// drawing of numbers, a step of the lock that isn't only a look, a step of the table of editors, a restore. The caller's
-/// number is no part of it. How long it is isn't judged: a journal takes at most [`limits::MOST_BODY`](crate::limits::MOST_BODY)
-/// bytes.
-#[tactic(auto, unfolding(crate::specs::Changes::change_bytes))]
+/// number is no part of it. How long it is isn't judged: that of a call that may be made has at most
+/// [`MOST_BODY`](doc_model::limits::MOST_BODY) bytes, as many as a journal takes.
+#[tactic(auto, unfolding(doc_model::specs::wire::ChangeBodies::change_bytes))]
 pub fn write_change(alloc: Global, call: &Call) -> Result<Octets, NoMemory>
     requires { can_move call.now.sub ≡ true }
     ensures { IfOk result (λ bytes. bytes ≡ change_bytes call.now) }

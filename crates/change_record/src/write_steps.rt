@@ -1,9 +1,9 @@
 // Writing steps of a lock and of the table of editors.
 ghost use Rattle.std.specs.Prelude.{◌≡◌, ◌++◌, OnOk};
 ghost use Rattle.wire_kinds.specs.Kind.{item};
-ghost use Rattle.change_record.specs.Changes.{lock_bytes, edit_bytes};
-ghost use Rattle.change_record.specs.Kinds.{text};
-ghost use Rattle.change_record.specs.Rows.{three_flagged, keyed, entry, numbered};
+ghost use Rattle.doc_model.specs.wire.ChangeBodies.{lock_bytes, edit_bytes};
+ghost use Rattle.doc_model.specs.wire.ChangeKinds.{text};
+ghost use Rattle.doc_model.specs.wire.ChangeRows.{three_flagged, keyed, entry, numbered};
 
 use crate::kinds::{Flag, write_tag, write_text};
 use compact_values::{Guid, NoMemory, Octets, Text, write_guid, write_item};
@@ -11,7 +11,7 @@ use doc_model::{EditorStep, LockStep};
 use wire_kinds::Encode;
 
 // The number of a step, and its fields.
-#[tactic(auto, unfolding(crate::specs::Rows::numbered))]
+#[tactic(auto, unfolding(doc_model::specs::wire::ChangeRows::numbered))]
 fn write_numbered<R: Encode>(out: &mut Octets, number: u8, fields: &R) -> Result<(), NoMemory>
     ensures { OnOk result (out.new ≡ out.old ++ numbered R.kind number fields.now) }
 {
@@ -28,7 +28,7 @@ fn write_pair(out: &mut Octets, key: &Text, value: &Octets) -> Result<(), NoMemo
 }
 
 // A client, a key and its value.
-#[tactic(auto, unfolding(crate::specs::Rows::numbered))]
+#[tactic(auto, unfolding(doc_model::specs::wire::ChangeRows::numbered))]
 fn write_entry(out: &mut Octets, client: Guid, key: &Text, value: &Octets) -> Result<(), NoMemory>
     ensures { OnOk result (out.new ≡ out.old ++ numbered entry 4 (client, (key.now, value.now))) }
 {
@@ -38,7 +38,7 @@ fn write_entry(out: &mut Octets, client: Guid, key: &Text, value: &Octets) -> Re
 }
 
 // A client and a key.
-#[tactic(auto, unfolding(crate::specs::Rows::numbered))]
+#[tactic(auto, unfolding(doc_model::specs::wire::ChangeRows::numbered))]
 fn write_key(out: &mut Octets, client: Guid, key: &Text) -> Result<(), NoMemory>
     ensures { OnOk result (out.new ≡ out.old ++ numbered keyed 5 (client, key.now)) }
 {
@@ -64,7 +64,7 @@ fn write_three(
 }
 
 /// Adds a step of a lock at the end, and nothing of one that only looks. On want of memory a part of it is there.
-#[tactic(auto, unfolding(crate::specs::Changes::lock_bytes))]
+#[tactic(auto, unfolding(doc_model::specs::wire::ChangeBodies::lock_bytes))]
 pub fn write_lock(out: &mut Octets, step: LockStep) -> Result<(), NoMemory>
     ensures { OnOk result (out.new ≡ out.old ++ lock_bytes step) }
 {
@@ -103,7 +103,7 @@ pub fn write_lock(out: &mut Octets, step: LockStep) -> Result<(), NoMemory>
 }
 
 /// Adds a step of the table of editors at the end. On want of memory a part of it is there.
-#[tactic(auto, unfolding(crate::specs::Changes::edit_bytes))]
+#[tactic(auto, unfolding(doc_model::specs::wire::ChangeBodies::edit_bytes))]
 pub fn write_edit(out: &mut Octets, step: &EditorStep) -> Result<(), NoMemory>
     ensures { OnOk result (out.new ≡ out.old ++ edit_bytes step.now) }
 {

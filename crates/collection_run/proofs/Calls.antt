@@ -46,13 +46,13 @@ module _ (c : Caller) where
       more_calls (n + length subs + 1) (n + length (sub ∷ subs)) (ask_known c doc (asked carried r.elements sub.what) next) (grind (arith, common_steps))
       (known (n + length subs) doc (asked carried r.elements sub.what) next (λ s. cell n doc carried r (done ++ answer_to sub s ∷ []) subs go_on later))
 
-  a_cell : (n doc : ℕ) (carried : Option Guid) (o : Result CellRequest ℕ) (go_on : Outcome → Process) → IfOk o IsFew
+  a_cell : (n doc : ℕ) (bytes : List ℕ) (carried : Option Guid) (o : Result CellRequest ℕ) (go_on : Outcome → Process) → IfOk o (IsFew bytes)
       → ((outcome : Outcome) → AtMost n (go_on outcome)) → AtMost (n + 64) (run_cell c doc carried o go_on)
-  a_cell n doc carried (Err number) go_on few later = more_calls n (n + 64) _ (omega arith) (later _)
-  a_cell n doc carried (Ok r) go_on few later = more_calls (n + length r.subs) (n + 64) _ (omega (arith, few.few_subs)) (cell n doc carried r [] r.subs _ (λ answers. later _))
+  a_cell n doc bytes carried (Err number) go_on few later = more_calls n (n + 64) _ (omega arith) (later _)
+  a_cell n doc bytes carried (Ok r) go_on few later = more_calls (n + length r.subs) (n + 64) _ (omega (arith, few.few_subs)) (cell n doc carried r [] r.subs _ (λ answers. later _))
 
   what : (n doc : ℕ) (w : What) (go_on : Outcome → Process) → HasBytes w → ((outcome : Outcome) → AtMost n (go_on outcome)) → AtMost (n + 64) (run_what c doc w go_on)
-  what n doc (asking.Cell bytes content carried) go_on fits later = a_cell n doc carried (request_in bytes content) go_on (few_in bytes content fits) later
+  what n doc (asking.Cell bytes content carried) go_on fits later = a_cell n doc bytes carried (request_in bytes content) go_on (few_in bytes content fits) later
   what n doc (asking.Plain sub) go_on fits later = (omega arith, λ s. more_calls n (n + 64 - 1) _ (omega arith) (later _))
   what n doc asking.NotSupported go_on fits later = more_calls n (n + 64) _ (omega arith) (later _)
   what n doc asking.BadArgument go_on fits later = more_calls n (n + 64) _ (omega arith) (later _)

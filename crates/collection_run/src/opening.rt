@@ -23,7 +23,7 @@ pub(crate) const NO_REQUEST: u32 = 18;
 pub(crate) fn open_request(alloc: Global, bytes: &[u8]) -> Result<Option<CellRequest>, NoMemory>
     ensures is { IfOk result (λ request. request ≡ request_of bytes.now) }
     // Each of its puts may be made.
-    ensures small { IfOk result (λ request. IfSome request IsSmall) }
+    ensures small { IfOk result (λ request. IfSome request (IsSmall bytes.now)) }
 {
     match read_cell_request(alloc, bytes) {
         Ok(request) => Ok(Some(request)),

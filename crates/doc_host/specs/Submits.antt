@@ -8,17 +8,11 @@ use Rattle.doc_model.specs.rules.Apply.{apply, replay}
 use Rattle.doc_model.specs.rules.Histories.{History, Fits}
 use Rattle.doc_model.specs.laws.Histories.{gained, Became}
 use Rattle.doc_model.specs.rules.Limits.{most_bodies}
-use Rattle.doc_model.specs.rules.Sound.{Sound, Valid}
+use Rattle.doc_model.specs.rules.Sound.{Sound}
 use Rattle.doc_model.specs.rules.Effects.{Effect}
-use Rattle.change_record.specs.Changes.{IsShort}
 use Rattle.turn_board.specs.declared.kept.Last.{Last}
 use Rattle.doc_host.specs.declared.journaled.Opening.{Opening}
 use Rattle.doc_host.specs.Attempts.{last_made}
-
--- A call that may be made on a document that is kept.
-pub record MayBeMade (call : Call) : Type 0 where
-  pub valid : Valid call
-  pub short : IsShort call
 
 -- what the call does after this history
 abbrev pub effect_after : Opening → History → Call → Effect

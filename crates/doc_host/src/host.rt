@@ -23,7 +23,7 @@ pub struct Host<J: Journaled> {
 impl<J: Journaled> Host<J> {
     ghost use Rattle.std.specs.Prelude.{◌≡◌, ◌<◌, ◌≤◌, [], List, ℕ, length, map, slice_get, vec_len, IfOk, IfErr, OnOk, OnErr, Some};
     ghost use Rattle.turn_board.specs.Rule.{first_view, kept_part, given_part};
-    ghost use Rattle.doc_host.specs.Submits.{MayBeMade};
+    ghost use Rattle.doc_model.specs.rules.Sound.{Valid};
     ghost use Rattle.doc_host.specs.Seats.{HasMade, FoundBusy, ReadsFront};
     ghost use Rattle.doc_host.specs.Passes.{At, turns_at, free_in, whole_in, joined, Each2, HasClosed};
     ghost use Rattle.doc_host.specs.Views.{views, openings, IsPassOf};
@@ -72,7 +72,7 @@ impl<J: Journaled> Host<J> {
         requires host { IsPassOf self.now pass.old }
         requires doc { doc < length self.now.boards.items }
         requires turns { 1 ≤ turns_at (views pass.old) doc }
-        requires call { MayBeMade call.now }
+        requires call { Valid call.now }
         ensures host { IsPassOf self.now pass.new }
         ensures made { At doc (HasMade call.now result) (views pass.old) (views pass.new) }
     {
@@ -93,7 +93,7 @@ impl<J: Journaled> Host<J> {
         requires host { IsPassOf self.now pass.old }
         requires doc { doc < length self.now.boards.items }
         requires turns { 1 ≤ turns_at (views pass.old) doc }
-        requires call { MayBeMade call.now }
+        requires call { Valid call.now }
         ensures host { IsPassOf self.now pass.new }
         ensures made { IfOk result (λ s. At doc (HasMade call.now s) (views pass.old) (views pass.new)) }
         ensures busy { IfErr result (λ b. At doc (FoundBusy b.ticket b.serving) (views pass.old) (views pass.new)) }

@@ -20,7 +20,8 @@ pub trait Journaled: Drop {
     ghost use Rattle.doc_model.specs.declared.call.Call.{Call};
     ghost use Rattle.doc_model.specs.declared.made.Made.{Made};
     ghost use Rattle.doc_host.specs.declared.journaled.Opening.{Opening};
-    ghost use Rattle.doc_host.specs.Submits.{MayBeMade, HasSubmitted};
+    ghost use Rattle.doc_model.specs.rules.Sound.{Valid};
+    ghost use Rattle.doc_host.specs.Submits.{HasSubmitted};
 
     // What it was opened as.
     ghost opening: { Self → Opening };
@@ -36,7 +37,7 @@ pub trait Journaled: Drop {
 
     /// Makes a call, as this caller.
     fn submit(&mut self, alloc: Global, caller: u32, call: &Call) -> Submitted
-        requires { MayBeMade call.now }
+        requires { Valid call.now }
         ensures opening { opening self.new ≡ opening self.old }
         ensures submitted { HasSubmitted (opening self.old) (history self.old) (history self.new) (last self.new) (faults self.old) (faults self.new) caller call.now result };
 

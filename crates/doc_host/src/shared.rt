@@ -44,7 +44,8 @@ impl<J: Journaled> Kept for Shared<J> {
 
 impl<J: Journaled> Shared<J> {
     ghost use Rattle.std.specs.Prelude.{◌≡◌};
-    ghost use Rattle.doc_host.specs.Submits.{MayBeMade, HasSubmitted};
+    ghost use Rattle.doc_model.specs.rules.Sound.{Valid};
+    ghost use Rattle.doc_host.specs.Submits.{HasSubmitted};
 
     pub(crate) fn new(doc: J) -> Shared<J>
         ensures { (J.opening result.doc ≡ J.opening doc) × (J.history result.doc ≡ J.history doc) × (J.faults result.doc ≡ J.faults doc) }
@@ -56,7 +57,7 @@ impl<J: Journaled> Shared<J> {
 
     /// Makes a call.
     pub(crate) fn submit(&mut self, alloc: Global, caller: u32, call: &Call) -> Submitted
-        requires { MayBeMade call.now }
+        requires { Valid call.now }
         ensures opening { J.opening self.new.doc ≡ J.opening self.old.doc }
         ensures submitted { HasSubmitted (J.opening self.old.doc) (J.history self.old.doc) (J.history self.new.doc) (J.last self.new.doc) (J.faults self.old.doc) (J.faults self.new.doc) caller call.now result }
     {

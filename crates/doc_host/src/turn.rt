@@ -4,7 +4,7 @@ ghost use mathlib.Core.List.{IsPrefix};
 ghost use Rattle.turn_board.specs.Calls.{calls_by, moved_calls};
 ghost use Rattle.turn_board.specs.Held.{value_in};
 ghost use Rattle.turn_board.specs.Seats.{view, IsSeatOf, IsSameSeat, IsIdle, HasTurn};
-ghost use Rattle.doc_host.specs.Submits.{MayBeMade};
+ghost use Rattle.doc_model.specs.rules.Sound.{Valid};
 ghost use Rattle.doc_host.specs.Passes.{numbers_of};
 ghost use Rattle.doc_host.specs.Seats.{Knows, MakesWith, HasMade, FoundBusy};
 
@@ -26,7 +26,7 @@ pub(crate) fn submit_in_turn<J: Journaled, R: Wait>(
     requires idle { IsIdle seat.old }
     requires turns { 1 ≤ (view seat.old).turns }
     requires knows { Knows (view seat.old) }
-    requires call { MayBeMade call.now }
+    requires call { Valid call.now }
     ensures seat { IsSameSeat seat.old seat.new × IsIdle seat.new }
     ensures made { HasMade call.now result (view seat.old) (view seat.new) }
     ensures knows { Knows (view seat.new) }
@@ -45,7 +45,7 @@ pub(crate) fn try_submit_in_turn<J: Journaled>(
     requires idle { IsIdle seat.old }
     requires turns { 1 ≤ (view seat.old).turns }
     requires knows { Knows (view seat.old) }
-    requires call { MayBeMade call.now }
+    requires call { Valid call.now }
     ensures seat { IsSameSeat seat.old seat.new × IsIdle seat.new }
     ensures made { IfOk result (λ s. HasMade call.now s (view seat.old) (view seat.new)) }
     ensures busy { IfErr result (λ b. FoundBusy b.ticket b.serving (view seat.old) (view seat.new)) }
@@ -72,7 +72,7 @@ fn call_and_leave<J: Journaled>(
     requires seen { IsPrefix (view seat.old).seen (view seat.old).taken × ((view seat.old).floor ≤ length (view seat.old).taken) }
     requires calls { calls_by (view seat.old).number (view seat.old).taken ≡ moved_calls (view seat.old).made }
     requires knows { Knows (view seat.old) }
-    requires call { MayBeMade call.now }
+    requires call { Valid call.now }
     ensures seat { IsSameSeat seat.old seat.new × IsIdle seat.new }
     ensures made { MakesWith (view seat.old).turns call.now result (view seat.old) (view seat.new) }
     ensures knows { Knows (view seat.new) }

@@ -24,6 +24,7 @@ pub mod Following
 pub mod Rows
 pub mod AllFirst
 pub mod SizeBounds
+pub mod ShortBodies
 pub mod LastCommit
 pub mod SameIndex
 pub mod SoundLocks

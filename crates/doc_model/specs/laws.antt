@@ -1,3 +1,4 @@
+pub mod Changes
 pub mod Documents
 pub mod Histories
 pub mod Locks

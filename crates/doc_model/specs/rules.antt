@@ -1,4 +1,5 @@
 pub mod Apply
+pub mod Changes
 pub mod Contents
 pub mod Drawing
 pub mod Editing

@@ -1,3 +1,6 @@
+pub mod ChangeBodies
+pub mod ChangeKinds
+pub mod ChangeRows
 pub mod ElementObjects
 pub mod ElementRows
 pub mod Elements

@@ -1,4 +1,5 @@
 //! Laws of the definitions: each function's contract is one, and it does nothing.
+ghost use Rattle.doc_model.specs.laws.Changes.{FewBeside, SmallIsShort};
 ghost use Rattle.doc_model.specs.laws.Documents.{UnmovedIsEqual, CommitsOnStored, OneCommitOfIndex, CommitsNewIndex, EqualIndexEqualCommits, NamesStay, ReachedStays, ReadsTheFile, RefusedStays, ChainStays, FileStays, DownloadsTheFile, DownloadsWhatIsReached, DownloadsNothing, KeepsSound, EmptyIsSound, CallsFollow, HistoriesFollow, RestoresTheFile};
 ghost use Rattle.doc_model.specs.laws.Locks.{CommitsUnderLock};
 ghost use Rattle.doc_model.specs.laws.Naming.{OnceIsEnough, ObjectOfTheFile};
@@ -75,4 +76,11 @@ pub fn each_is_named_once()
 /// The first object with an id, along the revisions of the root cell, is the one that the file is made with.
 pub fn an_object_is_of_the_file()
     ensures { ObjectOfTheFile }
+{}
+
+/// The body of a change has few bytes beside its user and what it sends: the elements of an upload, or a key and its value.
+/// So one is short that sends at most five bytes for each four of 24 MiB, by a user of at most 64.
+pub fn few_bytes_beside_what_is_sent()
+    ensures few { FewBeside }
+    ensures short { SmallIsShort }
 {}

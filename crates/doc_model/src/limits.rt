@@ -52,3 +52,6 @@ pub const MOST_REVISIONS: usize = 1024;
 
 /// How many bodies a journal may have.
 pub const MOST_BODIES: u64 = 1_000_000;
+
+/// How many bytes one of them may have: 32 MiB.
+pub const MOST_BODY: usize = 33_554_432;

@@ -1,6 +1,6 @@
 -- What is read is few subrequests, and calls that may be made.
 use Rattle.std.proofs.Common.{◌≡◌, ℕ, ◌+◌, ◌≤◌, ◌<◌, ◌^◌, Bool, true, false, cond, ltb, List, [], ◌∷◌, length, Option, Some, None, Result, Ok, Err, refl, subst, arith}
-use Rattle.std.specs.Prelude.{IfSome, codes}
+use Rattle.std.specs.Prelude.{IfSome, codes, encode_utf8_all}
 use Rattle.std.specs.List.{AllByRecursion}
 use Rattle.std.specs.Str.{bytes_eq}
 use Rattle.std.proofs.lemmas.Bool.{ltb-false}
@@ -8,6 +8,7 @@ use Rattle.std.proofs.lemmas.Bool.Decides.{nat_tests}
 use Rattle.doc_model.specs.rules.LockSteps.{timeout_of}
 use Rattle.doc_model.specs.rules.Editing.{editor_timeout_of}
 use Rattle.doc_model.specs.rules.Sound.{IsValidTimeout, Valid}
+use Rattle.doc_model.proofs.ShortBodies.{small_short}
 use Rattle.doc_model.specs.declared.call.Call.{Call}
 use Rattle.doc_model.specs.declared.editor.EditorStep.{EditorStep}
 use Rattle.doc_model.specs.declared.lock.LockStep.{LockStep}
@@ -18,7 +19,7 @@ use Rattle.envelope_grammar.specs.declared.raw.RawSub.{RawSub}
 use Rattle.envelope_grammar.specs.declared.tag.Attribute.{Attribute}
 use Rattle.envelope_read.specs.Asked.{asked_or_bad, cell_with, cell_asked, lock_or_bad, editor_or_bad, editor_asked, restore_of, version_asked, exclusive_asked, schema_asked, coauth_asked, table_asked, versions_asked, what_of, sub_of, data_attributes, data_text}
 use Rattle.envelope_read.specs.Base.{decoded}
-use Rattle.envelope_read.specs.Callable.{IsCallable, AreCallable, subs_of}
+use Rattle.envelope_read.specs.Callable.{IsCallable, AreCallable, IsWithin, subs_of}
 use Rattle.envelope_read.specs.Editing.{join_of, leave_of, refresh_of, set_key, remove_key, editor_step}
 use Rattle.envelope_read.specs.Locking.{exclusive_id, schema_id, client_id, take_exclusive, drop_exclusive, refresh_exclusive, check_exclusive, to_shared, take_shared, drop_shared, refresh_shared, to_exclusive, check_shared, status_of, mark_of, exclusive_step, schema_step, coauth_step}
 use Rattle.envelope_read.specs.Lookup.{value_of, bytes_of, carried_at, content_at, number_at, number_in, clamped, timeout_from, timeout_at}
@@ -311,5 +312,5 @@ pub verdict_callable : (text : List ℕ) (collection : Collection) → verdict t
 unfolding verdict
 verdict_callable text collection h = (fit_from (text_at text) collection h).callable
 
-pub valid_callable : (call : Call) → call.moment < 2 ^ 40 → IsCallable (asking.Plain call.sub) → Valid call
-valid_callable call early callable = record { moment = early; sub = callable }
+pub valid_callable : (call : Call) → call.moment < 2 ^ 40 → length (encode_utf8_all call.user) ≤ 64 → IsCallable (asking.Plain call.sub) → IsWithin 25_165_824 (asking.Plain call.sub) → Valid call
+valid_callable call early user callable within = record { moment = early; sub = callable; short = small_short call user (omega (arith, within)) }

@@ -4,4 +4,4 @@ pub mod White
 pub mod AskLoops
 pub mod Callables
 pub mod TextLengths
-pub mod CellLengths
+pub mod AskedLengths

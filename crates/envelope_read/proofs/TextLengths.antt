@@ -1,4 +1,5 @@
--- The text of a SubRequestData, in UTF-8, and the tag behind it lie in the envelope: it is shorter by two bytes at least.
+-- The text of a SubRequestData, in UTF-8, and the tag behind it lie in the envelope: it is shorter by two bytes at least. The
+-- values of its attributes are short.
 use Rattle.std.proofs.Common.{◌≡◌, ℕ, ◌+◌, ◌≤◌, inl, inr, ◌⊎◌, Bool, true, false, cond, eqb, List, [], ◌∷◌, ◌++◌, length, Option, Some, None, refl, sym, ap, subst, ◌∙◌, append_assoc, arith}
 use Rattle.std.specs.Prelude.{encode_utf8, encode_utf8_all}
 use Rattle.std.specs.List.{AllByRecursion, concat}
@@ -6,13 +7,14 @@ use Rattle.std.specs.Str.{bytes_eq}
 use Rattle.std.proofs.lemmas.List.{length-append}
 use Rattle.std.proofs.lemmas.Str.{encodes-chars, encodes-append, length-encode, len_utf8_bounds}
 use Rattle.envelope_grammar.specs.Front.{IsEnvelopeText}
-use Rattle.envelope_grammar.specs.Grammar.{Then, ◌▸◌, Is, White, Element, SpellsTag, SpellsEndName, tag_end, Piece, Plain, Reference, ArePieces, as_written, as_meant, hashed, character_of, SpellsText, SpellsOwn, SpellsMixed, IsSkippedBehind, SpellsContent, SpellsChildren, SpellsElements, SpellsPayload, SpellsSubChild, present, AtMostOne, SpellsSub, SpellsRequest, SpellsCollection, Holding, SpellsVersion, SpellsBody, SpellsEnvelope, SpellsDocument}
+use Rattle.envelope_grammar.specs.Grammar.{Then, ◌▸◌, Is, White, Element, SpellsTag, SpellsEndName, tag_end, Piece, Plain, Reference, ArePieces, as_written, as_meant, hashed, character_of, SpellsText, SpellsOwn, SpellsQuoted, SpellsAttributes, SpellsMixed, IsSkippedBehind, SpellsContent, SpellsChildren, SpellsElements, SpellsPayload, SpellsSubChild, present, AtMostOne, SpellsSub, SpellsRequest, SpellsCollection, Holding, SpellsVersion, SpellsBody, SpellsEnvelope, SpellsDocument}
 use Rattle.envelope_grammar.specs.declared.raw.Payload.{Payload}
 use Rattle.envelope_grammar.specs.declared.raw.RawRequest.{RawRequest}
 use Rattle.envelope_grammar.specs.declared.raw.RawSub.{RawSub}
+use Rattle.envelope_grammar.specs.declared.tag.Attribute.{Attribute}
 use Rattle.envelope_grammar.specs.declared.tag.Tag.{Tag}
 use Rattle.envelope_grammar.proofs.Runs.{bytes_eq_true}
-use Rattle.envelope_read.specs.Asked.{data_text}
+use Rattle.envelope_read.specs.Asked.{data_attributes, data_text}
 
 -- ---- references are longer than what they mean
 
@@ -61,6 +63,24 @@ text_shorter text written h =
     let bytes : encode_utf8_all text ≡ as_meant h.pieces = ap encode_utf8_all h.meant ∙ encodes-chars (as_meant h.pieces) h.utf8 in
     omega (arith, ap length bytes, ap length h.spelled, meant_shorter h.pieces h.are)
 
+-- ---- values of attributes
+
+abbrev pub IsShortValue : List ℕ → Type 0
+IsShortValue value = length (encode_utf8_all value) ≤ 4_096
+
+abbrev pub HaveShortValues : List Attribute → Type 0
+HaveShortValues attributes = AllByRecursion (λ a. IsShortValue a.value) attributes
+
+quoted_short : (value bytes : List ℕ) → SpellsQuoted value bytes → IsShortValue value
+quoted_short value bytes h = omega (arith, text_shorter value h.written h.text, h.short)
+
+values_short : (attributes : List Attribute) (bytes : List ℕ) → SpellsAttributes attributes bytes → HaveShortValues attributes
+values_short [] bytes h = tt
+values_short (a ∷ attributes) bytes h = (quoted_short a.value _ h.first.second.second.second.second.second, values_short attributes h.back h.second)
+
+tag_values : (tag : Tag) (bytes : List ℕ) → SpellsTag tag bytes → HaveShortValues tag.attributes
+tag_values tag bytes h = values_short tag.attributes h.second.second.front h.second.second.first
+
 -- ---- a text and what follows it
 
 then_length : (P Q : List ℕ → Type 0) (bytes : List ℕ) (h : Then P Q bytes) → length bytes ≡ length h.front + length h.back
@@ -93,9 +113,9 @@ tag_long tag bytes h =
     let b = a.second in
     omega (arith, ap length h.bytes_are, length-append h.front h.back, ap length h.first, ap length a.bytes_are, length-append a.front a.back, ap length b.bytes_are, length-append b.front b.back, ap length b.second, tag_end_long tag.closed)
 
--- the text of the data, and two bytes more, lie in so many
+-- the text of the data, and two bytes more, lie in so many, and the values of its attributes are short
 abbrev pub IsShortSubChild : ℕ → Option Payload → Type 0
-IsShortSubChild most part = length (data_text part) + 2 ≤ most
+IsShortSubChild most part = (length (data_text part) + 2 ≤ most) × HaveShortValues (data_attributes part)
 
 abbrev pub IsShortSub : ℕ → RawSub → Type 0
 IsShortSub most sub = IsShortSubChild most sub.payload
@@ -115,11 +135,13 @@ payload_short payload tag front back t h =
 
 sub_child_short : (part : Option Payload) (bytes : List ℕ) → Element (SpellsSubChild part) bytes → IsShortSubChild (length bytes) part
 sub_child_short (Some payload) bytes h =
-    let t = h.spelled in
-    omega (arith, ap length t.bytes_are, length-append t.front t.back, payload_short payload h.tag t.front t.back t.first t.second.1)
+    let t = h.spelled in (
+      omega (arith, ap length t.bytes_are, length-append t.front t.back, payload_short payload h.tag t.front t.back t.first t.second.1),
+      subst HaveShortValues (sym t.second.1.0) (tag_values h.tag t.front t.first),
+    )
 sub_child_short None bytes h =
     let t = h.spelled in
-    omega (arith, ap length t.bytes_are, length-append t.front t.back, tag_long h.tag t.front t.first)
+    (omega (arith, ap length t.bytes_are, length-append t.front t.back, tag_long h.tag t.front t.first), tt)
 
 -- elements that are each within their bytes are within the bytes of all
 module _ {V : Type 0} (Child : V → Tag → List ℕ → Type 0) (Fits : ℕ → V → Type 0)
@@ -148,10 +170,10 @@ module _ {V : Type 0} (Child : V → Tag → List ℕ → Type 0) (Fits : ℕ �
       ]
 
 sub_child_more : (m n : ℕ) (part : Option Payload) → m ≤ n → IsShortSubChild m part → IsShortSubChild n part
-sub_child_more m n part le h = omega (arith, le, h)
+sub_child_more m n part le h = (omega (arith, le, h.0), h.1)
 
 sub_more : (m n : ℕ) (sub : RawSub) → m ≤ n → IsShortSub m sub → IsShortSub n sub
-sub_more m n sub le h = omega (arith, le, h)
+sub_more m n sub le h = sub_child_more m n sub.payload le h
 
 subs_more : (m n : ℕ) (subs : List RawSub) → m ≤ n → AllByRecursion (IsShortSub m) subs → AllByRecursion (IsShortSub n) subs
 subs_more m n [] le h = tt
@@ -171,7 +193,7 @@ present_short most (None ∷ parts) h = present_short most parts h.1
 present_short most (Some p ∷ parts) h = (h.0, present_short most parts h.1)
 
 one_short : (most : ℕ) (found : List Payload) (payload : Option Payload) → 2 ≤ most → AtMostOne found payload → AllByRecursion (λ p. IsShortSubChild most (Some p)) found → IsShortSubChild most payload
-one_short most found None two one h = two
+one_short most found None two one h = (two, tt)
 one_short most found (Some payload) two one h = (subst (λ (l : List Payload). AllByRecursion (λ p. IsShortSubChild most (Some p)) l) one h).0
 
 sub_short : (sub : RawSub) (bytes : List ℕ) → Element (SpellsSub sub) bytes → IsShortSub (length bytes) sub

@@ -1,6 +1,7 @@
--- Envelopes whose calls may be made, how many subrequests one has, and how large its Cells are.
+-- Envelopes whose calls may be made, how many subrequests one has, and how much these send.
 use Rattle.std.specs.Prelude.{ℕ, ◌+◌, ◌≤◌, List, [], ◌∷◌, length}
 use Rattle.std.specs.List.{AllByRecursion}
+use Rattle.doc_model.specs.rules.Changes.{sent_weight}
 use Rattle.doc_model.specs.rules.Sound.{IsValidSub}
 use Rattle.envelope_read.specs.declared.collection.Ask.{Ask}
 use Rattle.envelope_read.specs.declared.collection.Collection.{Collection}
@@ -15,13 +16,14 @@ IsCallable what = Unit {0}
 abbrev pub AreCallable : Collection → Type 0
 AreCallable collection = AllByRecursion (λ ask. AllByRecursion (λ sub. IsCallable sub.what) ask.subs) collection.requests
 
--- a Cell has at most so many bytes
-abbrev pub IsCellWithin : ℕ → What → Type 0
-IsCellWithin most (asking.Cell bytes content carried) = length bytes ≤ most
-IsCellWithin most what = Unit {0}
+-- A Cell has at most so many bytes. What is asked for plainly sends a value of at most so many, and a key of at most 4,096.
+abbrev pub IsWithin : ℕ → What → Type 0
+IsWithin most (asking.Cell bytes content carried) = length bytes ≤ most
+IsWithin most (asking.Plain sub) = sent_weight sub ≤ most + 4_096
+IsWithin most what = Unit {0}
 
-abbrev pub AreCellsWithin : ℕ → Collection → Type 0
-AreCellsWithin most collection = AllByRecursion (λ ask. AllByRecursion (λ sub. IsCellWithin most sub.what) ask.subs) collection.requests
+abbrev pub AreWithin : ℕ → Collection → Type 0
+AreWithin most collection = AllByRecursion (λ ask. AllByRecursion (λ sub. IsWithin most sub.what) ask.subs) collection.requests
 
 abbrev pub subs_of : List Ask → ℕ
 subs_of [] = 0

@@ -1,7 +1,7 @@
 // Passes in threads of their own.
 ghost use Rattle.std.specs.Prelude.{◌<◌, ◌≤◌, length, IfOk};
 ghost use Rattle.std.specs.Thread.{IsSync};
-ghost use Rattle.doc_host.specs.Submits.{MayBeMade};
+ghost use Rattle.doc_model.specs.rules.Sound.{Valid};
 ghost use Rattle.doc_host.specs.Seats.{HasMade};
 ghost use Rattle.doc_host.specs.Passes.{At, turns_at, free_in};
 ghost use Rattle.host_tests.specs.Splits.{SideBySide};
@@ -29,18 +29,18 @@ pub fn submit_in_two_threads<J: Journaled + Send, R: Threads + Wait + Sync>(
     requires second { IsPassOf host.now second }
     requires doc { doc < length host.now.boards.items }
     requires turns { (1 ≤ turns_at (views first) doc) × (1 ≤ turns_at (views second) doc) }
-    requires calls { MayBeMade one.now × MayBeMade other.now }
+    requires calls { Valid one.now × Valid other.now }
     ensures first { IsPassOf host.now result.0.0 × At doc (HasMade one.now result.0.1) (views first) (views result.0.0) }
     ensures second { IsPassOf host.now result.1.0 × At doc (HasMade other.now result.1.1) (views second) (views result.1.0) }
 {
     join(
         rt,
         || -> (Pass<J>, Submitted)
-            requires { IsSync R.row × IsPassOf host.now first × (doc < length host.now.boards.items) × (1 ≤ turns_at (views first) doc) × MayBeMade one.now }
+            requires { IsSync R.row × IsPassOf host.now first × (doc < length host.now.boards.items) × (1 ≤ turns_at (views first) doc) × Valid one.now }
             ensures { IsPassOf host.entry.now result.0 × At doc (HasMade one.entry.now result.1) (views first) (views result.0) }
         { submit_once(rt, alloc, host, first, doc, one) },
         || -> (Pass<J>, Submitted)
-            requires { IsSync R.row × IsPassOf host.now second × (doc < length host.now.boards.items) × (1 ≤ turns_at (views second) doc) × MayBeMade other.now }
+            requires { IsSync R.row × IsPassOf host.now second × (doc < length host.now.boards.items) × (1 ≤ turns_at (views second) doc) × Valid other.now }
             ensures { IsPassOf host.entry.now result.0 × At doc (HasMade other.entry.now result.1) (views second) (views result.0) }
         { submit_once(rt, alloc, host, second, doc, other) },
     )
@@ -57,7 +57,7 @@ fn submit_once<J: Journaled, R: Wait>(
     requires host { IsPassOf host.now pass }
     requires doc { doc < length host.now.boards.items }
     requires turns { 1 ≤ turns_at (views pass) doc }
-    requires call { MayBeMade call.now }
+    requires call { Valid call.now }
     ensures { IsPassOf host.now result.0 × At doc (HasMade call.now result.1) (views pass) (views result.0) }
 {
     let mut pass = pass;
@@ -79,7 +79,7 @@ pub fn submit_side_by_side<J: Journaled + Send, R: Threads + Wait + Sync>(
     requires free { 1 ≤ free_in (views pass) }
     requires doc { doc < length host.now.boards.items }
     requires turns { 2 ≤ turns_at (views pass) doc }
-    requires calls { MayBeMade one.now × MayBeMade other.now }
+    requires calls { Valid one.now × Valid other.now }
     ensures host { IfOk result (λ r. IsPassOf host.now r.0) }
     ensures made { IfOk result (λ r. SideBySide doc one.now other.now r.1 r.2 (views pass) (views r.0)) }
 {

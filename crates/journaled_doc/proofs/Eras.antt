@@ -6,7 +6,7 @@ use Rattle.std.proofs.lemmas.List.{map-append}
 use Rattle.compact_values.specs.declared.guid.Guid.{Guid}
 use Rattle.cell_journal.specs.Journals.{IsOneOf, IsSafe}
 use Rattle.doc_model.specs.declared.call.Call.{Call}
-use Rattle.change_record.specs.Changes.{change_bytes}
+use Rattle.doc_model.specs.wire.ChangeBodies.{change_bytes}
 use Rattle.journaled_doc.specs.Eras.{Event, Crashed, NotMended, NotAppended, Era, in_list, with_tried, after, nothing_yet, era, bodies, IsKeepable, AreKeepable, Keeps}
 use Rattle.journaled_doc.specs.Crashes.{FailsInside}
 use Rattle.journaled_doc.specs.Standing.{IsDiskFault, LeavesTried}

@@ -4,7 +4,7 @@ use Rattle.std.specs.Prelude.{option_map, Result, Ok, Err, OnErr}
 use Rattle.compact_values.specs.declared.guid.Guid.{Guid}
 use Rattle.cell_journal.specs.Journals.{Stands, IsOneOf}
 use Rattle.doc_model.specs.declared.call.Call.{Call}
-use Rattle.change_record.specs.Changes.{change_bytes}
+use Rattle.doc_model.specs.wire.ChangeBodies.{change_bytes}
 use Rattle.journaled_doc.specs.Eras.{bodies}
 use Rattle.journaled_doc.specs.Standing.{IsStanding, tried_of, LeavesTried}
 use Rattle.journaled_doc.specs.declared.kept.Kept.{Kept}

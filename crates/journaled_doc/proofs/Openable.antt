@@ -8,7 +8,8 @@ use Rattle.cell_journal.specs.Layout.{AreBodies, front, Image}
 use Rattle.doc_model.specs.rules.Apply.{apply, empty_doc}
 use Rattle.doc_model.specs.declared.call.Call.{Call}
 use Rattle.doc_model.specs.declared.doc.Doc.{Doc}
-use Rattle.change_record.specs.Changes.{change_bytes, IsChange}
+use Rattle.doc_model.specs.wire.ChangeBodies.{change_bytes}
+use Rattle.change_record.specs.Changes.{IsChange}
 use Rattle.journaled_doc.specs.Eras.{bodies, document_of}
 use Rattle.journaled_doc.specs.Replays.{IsOnly, AreChanges, IsNoChange, FailsToOpen}
 use Rattle.journaled_doc.proofs.Replaying.{front-more}

@@ -10,7 +10,8 @@ use Rattle.cell_journal.specs.declared.state.Journal.{Journal}
 use Rattle.doc_model.specs.rules.Apply.{empty_doc}
 use Rattle.doc_model.specs.declared.call.Call.{Call}
 use Rattle.doc_model.specs.declared.doc.Doc.{Doc}
-use Rattle.change_record.specs.Changes.{change_bytes, IsChange}
+use Rattle.doc_model.specs.wire.ChangeBodies.{change_bytes}
+use Rattle.change_record.specs.Changes.{IsChange}
 use Rattle.journaled_doc.specs.Eras.{Event, Opened, Era, with_tried, after, era, bodies, document_of, IsKeepable, AreKeepable}
 use Rattle.journaled_doc.specs.Docs.{InEra}
 use Rattle.journaled_doc.specs.Replays.{IsOnly, AreChanges, IsReplay, IsOpenedIn, IsReopened}

@@ -15,7 +15,8 @@ use Rattle.cell_journal.specs.declared.state.Reading.{Reading}
 use Rattle.doc_model.specs.rules.Apply.{apply, empty_doc}
 use Rattle.doc_model.specs.declared.call.Call.{Call}
 use Rattle.doc_model.specs.declared.doc.Doc.{Doc}
-use Rattle.change_record.specs.Changes.{change_bytes, IsChange}
+use Rattle.doc_model.specs.wire.ChangeBodies.{change_bytes}
+use Rattle.change_record.specs.Changes.{IsChange}
 use Rattle.change_record.specs.FittingCalls.{FitsCall}
 use Rattle.journaled_doc.specs.Eras.{bodies, document_of}
 use Rattle.journaled_doc.specs.Replays.{IsOnly, AreChanges, IsReplay, Replays, IsNoChange, FailsAsChange}

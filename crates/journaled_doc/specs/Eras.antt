@@ -7,7 +7,8 @@ use Rattle.cell_journal.specs.Journals.{IsSafe}
 use Rattle.doc_model.specs.rules.Apply.{apply, empty_doc}
 use Rattle.doc_model.specs.declared.call.Call.{Call}
 use Rattle.doc_model.specs.declared.doc.Doc.{Doc}
-use Rattle.change_record.specs.Changes.{change_bytes, IsChange}
+use Rattle.doc_model.specs.wire.ChangeBodies.{change_bytes}
+use Rattle.change_record.specs.Changes.{IsChange}
 use Rattle.change_record.specs.FittingCalls.{FitsCall}
 
 -- A crash, and an opening that succeeds, say whether the change that was tried last was found. A crash inside a call is that call

@@ -8,7 +8,8 @@ use Rattle.cell_journal.specs.Readings.{HasGiven}
 use Rattle.cell_journal.specs.declared.fault.JournalFault.{JournalFault}
 use Rattle.cell_journal.specs.declared.fault.JournalFault.TheVariants as journal
 use Rattle.cell_journal.specs.declared.state.Reading.{Reading}
-use Rattle.change_record.specs.Changes.{change_bytes, IsChange}
+use Rattle.doc_model.specs.wire.ChangeBodies.{change_bytes}
+use Rattle.change_record.specs.Changes.{IsChange}
 use Rattle.change_record.specs.FittingCalls.{FitsCall}
 use Rattle.doc_model.specs.rules.Apply.{apply, empty_doc}
 use Rattle.doc_model.specs.declared.call.Call.{Call}

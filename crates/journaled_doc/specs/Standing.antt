@@ -7,7 +7,7 @@ use Rattle.doc_model.specs.rules.Limits.{most_bodies}
 use Rattle.doc_model.specs.declared.call.Call.{Call}
 use Rattle.doc_model.specs.declared.reply.Submitted.{Submitted}
 use Rattle.doc_model.specs.declared.reply.Submitted.TheVariants.{Answered, DiskFault, JournalFull, NoMemory}
-use Rattle.change_record.specs.Changes.{change_bytes}
+use Rattle.doc_model.specs.wire.ChangeBodies.{change_bytes}
 use Rattle.journaled_doc.specs.Eras.{bodies, IsKeepable}
 use Rattle.journaled_doc.specs.declared.kept.Kept.{Kept}
 

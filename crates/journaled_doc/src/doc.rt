@@ -23,7 +23,6 @@ pub struct JournaledDoc<C, D> {
 impl<C: Core, D: Disk> JournaledDoc<C, D> {
     ghost use Rattle.std.specs.Prelude.{◌≡◌, ◌+◌, ◌-◌, ◌≤◌, ◌++◌, true, List, ℕ, IfOk, length, None};
     ghost use Rattle.host_edge.specs.Disks.{LeavesOnly};
-    ghost use Rattle.change_record.specs.Changes.{IsShort};
     ghost use Rattle.doc_model.specs.rules.Apply.{apply};
     ghost use Rattle.doc_model.specs.laws.Histories.{gained};
     ghost use Rattle.doc_model.specs.rules.Limits.{most_bodies};
@@ -36,8 +35,7 @@ impl<C: Core, D: Disk> JournaledDoc<C, D> {
 
     // Plans the call, keeps its change where it moves, and then does it. The story isn't told.
     fn attempt(&mut self, alloc: Global, call: &Call) -> (bool, Submitted)
-        requires valid { Valid call.now }
-        requires short { IsShort call.now }
+        requires { Valid call.now }
         ensures { Attempted C.doc D.may_leave D.moment D.left_since D.faults self.old self.new call.now result.0 result.1 }
     {
         changes_are_of_their_kinds();
@@ -59,8 +57,7 @@ impl<C: Core, D: Disk> JournaledDoc<C, D> {
     /// the history. `DiskFault` comes only where the call moves and the disk's count of faults rose, `JournalFull` exactly where it
     /// moves and the journal has 1,000,000 bodies. After these two and `NoMemory` the document is as before.
     pub fn submit(&mut self, alloc: Global, caller: u32, call: &Call) -> Submitted
-        requires valid { Valid call.now }
-        requires short { IsShort call.now }
+        requires { Valid call.now }
 
         // The reply is the document's, and the document is then the one that the call leads to; or it is as before.
         ensures answer { IsAnswered (apply (C.doc self.old.core) call.now) (C.doc self.old.core) (C.doc self.new.core) result }

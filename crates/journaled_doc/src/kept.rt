@@ -1,7 +1,7 @@
 // The journal with the change whose append failed, and how a change is kept.
 ghost use Rattle.std.specs.Prelude.{◌≡◌, true, IfOk, length};
-ghost use Rattle.change_record.specs.Changes.{change_bytes, IsShort};
-ghost use Rattle.doc_model.specs.rules.Histories.{can_move};
+ghost use Rattle.doc_model.specs.wire.ChangeBodies.{change_bytes};
+ghost use Rattle.doc_model.specs.rules.Changes.{can_move};
 ghost use Rattle.doc_model.specs.rules.Sound.{Valid};
 ghost use Rattle.journaled_doc.specs.Eras.{IsKeepable};
 ghost use Rattle.journaled_doc.specs.Unkepts.{submitted_of};
@@ -40,7 +40,7 @@ impl<D: Disk> Kept<D> {
     ghost use Rattle.host_edge.specs.Disks.{LeavesOnly};
     ghost use Rattle.doc_model.specs.rules.Limits.{most_bodies};
     ghost use Rattle.doc_model.specs.declared.call.Call.{Call};
-    ghost use Rattle.change_record.specs.Changes.{change_bytes};
+    ghost use Rattle.doc_model.specs.wire.ChangeBodies.{change_bytes};
     ghost use Rattle.journaled_doc.specs.Standing.{IsStanding, tried_of, LeavesTried, IsDiskFault};
 
     /// Mends the journal, if it isn't settled.
@@ -131,7 +131,6 @@ impl<D: Disk> Kept<D> {
 pub fn if_kept(moved: bool, call: &Call)
     requires kind { moved ≡ true → can_move call.now.sub ≡ true }
     requires valid { Valid call.now }
-    requires short { IsShort call.now }
     ensures { moved ≡ true → IsKeepable call.now }
 {
     if moved {
@@ -142,7 +141,7 @@ pub fn if_kept(moved: bool, call: &Call)
 // The body of a change, as it is written.
 fn frame_of(alloc: Global, call: &Call) -> Result<Frame, NoMemory>
     requires kind { can_move call.now.sub ≡ true }
-    requires short { IsShort call.now }
+    requires valid { Valid call.now }
     ensures { IfOk result (λ frame. frame ≡ change_bytes call.now) }
 {
     let body = write_change(alloc, call)?;
@@ -164,16 +163,16 @@ impl<D: Disk> Kept<D> {
     ghost use Rattle.std.specs.Prelude.{◌≡◌, ◌≢◌, ◌↔◌, ◌+◌, ◌≤◌, ◌++◌, [], ◌∷◌, List, ℕ, IsTrue, IfErr, OnOk, OnErr, IsErrOf, Some, None, true};
     ghost use Rattle.doc_model.specs.rules.Limits.{most_bodies};
     ghost use Rattle.doc_model.specs.declared.call.Call.{Call};
-    ghost use Rattle.change_record.specs.Changes.{IsShort};
     ghost use Rattle.host_edge.specs.Causes.{Rose};
     ghost use Rattle.host_edge.specs.Disks.{LeavesOnly};
-    ghost use Rattle.doc_model.specs.rules.Histories.{can_move};
+    ghost use Rattle.doc_model.specs.rules.Changes.{can_move};
+    ghost use Rattle.doc_model.specs.rules.Sound.{Valid};
     ghost use Rattle.journaled_doc.specs.Standing.{IsStanding, tried_of, IsDiskFault, IsKeptAs, IsLeft, HasSubmitCause, IsFull, if_moved};
 
     /// Keeps the change of a call that moves; for one that doesn't, nothing is done.
     pub fn keep_moved(&mut self, alloc: Global, moved: bool, call: &Call) -> Result<(), Submitted>
         requires kind { moved ≡ true → can_move call.now.sub ≡ true }
-        requires short { IsShort call.now }
+        requires valid { Valid call.now }
         requires keepable { moved ≡ true → IsKeepable call.now }
         ensures done { (calls : List Call) → IsStanding D.may_leave self.old calls → OnOk result (IsStanding D.may_leave self.new (calls ++ if_moved moved call.now)) }
         ensures refused { (calls : List Call) → IsStanding D.may_leave self.old calls → OnErr result (IsStanding D.may_leave self.new calls) }

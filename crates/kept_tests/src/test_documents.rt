@@ -1,7 +1,7 @@
 // Documents on disks in memory, and calls on them. Each call is first seen to be one that may be made, so that no test has to
 // prove it.
 ghost use Rattle.std.specs.Prelude.{◌≡◌, IsTrue};
-ghost use Rattle.change_record.specs.Changes.{IsShort};
+ghost use Rattle.doc_model.specs.rules.Changes.{IsShort};
 
 use cell_journal::Reading;
 use change_record::limits::MOST_BODY;

@@ -8,6 +8,7 @@ mod Heads
 mod Ending
 mod Users
 mod BodyRoom
+mod BodyWithin
 mod Rooming
 pub mod Safe
 mod OneCut

@@ -1,10 +1,11 @@
--- The user of a request is ASCII.
+-- The user of a request is ASCII and short, and its body is small.
 use Rattle.std.proofs.Common.{◌≡◌, ◌<◌, ◌≤◌, ℕ, List, [], ◌∷◌, Bool, true, false, Option, Some, None, Result, Ok, Err, inl, inr, refl, sym, subst, arith, length, map, ◌-◌, take, drop}
 use Rattle.std.specs.Prelude.{◌&&◌, ◌==◌, nat_le, nat_lt, codes, if◌then◌else◌, IfSome}
 use Rattle.std.specs.List.{list_all, All}
 use Rattle.std.specs.Str.{IsAscii}
 use Rattle.std.proofs.lemmas.Grind.{common_steps}
 use Rattle.std.proofs.lemmas.List.Elements.{All-from_recursion, All-nil, All-cons}
+use Rattle.std.proofs.lemmas.Str.{encodes-IsAscii}
 use Rattle.std.proofs.lemmas.Str.Ascii.{IsAscii-from_all}
 use Rattle.httparse.specs.Spans.{name_and_value}
 use Rattle.http_head.specs.Requests.{Parts, Header, ReadsHead, is_plain, is_user, user_of, judge, judge_headers, judge_body, route_on, route_of, place_of, fits, user_at, is_posted, posted_status, is_other_type, is_bare, framing_of, closes}
@@ -17,8 +18,9 @@ use Rattle.http_head.specs.declared.target.Route.{Route}
 use Rattle.http_head.specs.declared.target.Route.TheVariants.{Cells, Front, File}
 use Rattle.std.proofs.lemmas.List.Quantifiers.{position-Some}
 use Rattle.std.specs.Option.{option_map}
-use Rattle.session_loop.specs.Safety.{IsRouted}
+use Rattle.session_loop.specs.Safety.{IsRouted, IsWithin, IsShortUser}
 use Rattle.session_loop.specs.Rooms.{body_room, most_body_room}
+use Rattle.session_loop.proofs.BodyRoom.{nonzero}
 
 pub anonymous_is_ascii : IsAscii (codes "anonymous")
 anonymous_is_ascii =
@@ -61,9 +63,32 @@ err_not_ok a p e = cc
 ok_same : (p q : Parts) → ◌≡◌ {A = Result Parts ℕ} (Ok p) (Ok q) → p ≡ q
 ok_same p q e = cc
 
--- the user is ASCII, and the body has an end
+-- and short
+user_is_short : (l : List ℕ) → is_user l ≡ true → length l ≤ 64
+user_is_short l h = below (both (nat_lt 0 (length l)) (nat_le (length l) 64) (both (nat_lt 0 (length l) && nat_le (length l) 64) (list_all is_plain l) h).0).1
+  where
+    below : nat_le (length l) 64 ≡ true → length l ≤ 64
+    below e = grind (arith)
+
+of_short : (values : List (List ℕ)) (user : List ℕ) → user_of values ≡ Some user → length user ≤ 64
+of_short [] user e = subst (λ (l : List ℕ). length l ≤ 64) (some_same (codes "anonymous") user e) (omega arith)
+of_short (value ∷ []) user e = go (is_user value) refl e
+  where
+    go : (b : Bool) → is_user value ≡ b → (if b then Some value else None) ≡ Some user → length user ≤ 64
+    go true is h = subst (λ (l : List ℕ). length l ≤ 64) (some_same value user h) (user_is_short value is)
+    go false is h = absurd cc
+of_short (value ∷ second ∷ values) user e = absurd cc
+
+short_user : (l : List ℕ) → IsAscii l → length l ≤ 64 → IsShortUser l
+short_user l ascii few = subst (λ (x : List ℕ). length x ≤ 64) (sym (encodes-IsAscii l ascii)) few
+
+-- the body has an end, and is within the limit
+abbrev pub IsSmall : Framing → Type 0
+IsSmall framing = (body_room (fresh framing) ≤ most_body_room) × IsWithin (fresh framing)
+
+-- the user is ASCII and short, the body small, and there is the document
 abbrev pub IsGood : List (List ℕ) → Parts → Type 0
-IsGood names parts = IsAscii parts.user × (body_room (fresh parts.framing) ≤ most_body_room) × IsRouted names parts.route
+IsGood names parts = IsAscii parts.user × (body_room (fresh parts.framing) ≤ most_body_room) × IsRouted names parts.route × IsWithin (fresh parts.framing) × IsShortUser parts.user
 
 some_route : (a b : Route) → ◌≡◌ {A = Option Route} (Some a) (Some b) → a ≡ b
 some_route a b e = cc
@@ -88,24 +113,24 @@ route_in : (names : List (List ℕ)) (path : List ℕ) (r : Route) → route_on 
 route_in names path r e = routed_by names _ _ _ (place_of (drop 8 path) names) (place_of (drop 7 path) names) r (place_in (drop 8 path) names) (place_in (drop 7 path) names) e
 
 length_small : (bytes : ℕ) (b : Bool) → bytes == 0 ≡ b → bytes ≤ 25_165_824
-    → body_room (record { place = if b then Whole else Counted bytes; line = []; body = [] }) ≤ most_body_room
-length_small bytes true e few = omega arith
-length_small bytes false e few = omega (arith, few)
+    → (body_room (record { place = if b then Whole else Counted bytes; line = []; body = [] }) ≤ most_body_room) × IsWithin (record { place = if b then Whole else Counted bytes; line = []; body = [] })
+length_small bytes true e few = (omega arith, omega arith)
+length_small bytes false e few = (omega (arith, few), (nonzero bytes e, omega (arith, few)))
 
-posted_small : (framing : Framing) → posted_status framing ≡ None → body_room (fresh framing) ≤ most_body_room
+posted_small : (framing : Framing) → posted_status framing ≡ None → IsSmall framing
 posted_small Nothing e = absurd cc
-posted_small Chunks e = omega arith
+posted_small Chunks e = (omega arith, omega arith)
 posted_small (Length bytes) e = go (nat_le bytes 25_165_824) refl e
   where
     few : nat_le bytes 25_165_824 ≡ true → bytes ≤ 25_165_824
     few h = grind (arith, common_steps)
 
-    go : (b : Bool) → nat_le bytes 25_165_824 ≡ b → if◌then◌else◌ {A = Option ℕ} b None (Some 413) ≡ None → body_room (fresh (Length bytes)) ≤ most_body_room
+    go : (b : Bool) → nat_le bytes 25_165_824 ≡ b → if◌then◌else◌ {A = Option ℕ} b None (Some 413) ≡ None → IsSmall (Length bytes)
     go true is h = length_small bytes (bytes == 0) refl (few is)
     go false is h = absurd cc
 
-bare_small : (framing : Framing) → is_bare framing ≡ true → body_room (fresh framing) ≤ most_body_room
-bare_small Nothing e = omega arith
+bare_small : (framing : Framing) → is_bare framing ≡ true → IsSmall framing
+bare_small Nothing e = (omega arith, omega arith)
 bare_small Chunks e = absurd cc
 bare_small (Length bytes) e = length_small bytes (bytes == 0) refl (none e)
   where
@@ -113,14 +138,14 @@ bare_small (Length bytes) e = length_small bytes (bytes == 0) refl (none e)
     none h = grind (arith, common_steps)
 
 module _ (parts : Parts) (names : List (List ℕ)) where
-  in_body : (route : Route) (framing : Framing) (user : List ℕ) (minor : ℕ) (headers : List Header) → IsAscii user → IsRouted names route → judge_body route framing user minor headers ≡ Ok parts → IsGood names parts
-  in_body route framing user minor headers ascii routes e = posted (is_posted route) refl
+  in_body : (route : Route) (framing : Framing) (user : List ℕ) (minor : ℕ) (headers : List Header) → IsAscii user → length user ≤ 64 → IsRouted names route → judge_body route framing user minor headers ≡ Ok parts → IsGood names parts
+  in_body route framing user minor headers ascii short routes e = posted (is_posted route) refl
     where
       said : Parts
       said = record { route = route; framing = framing; close = closes minor (values_of (codes "connection") headers); user = user }
 
-      same : body_room (fresh framing) ≤ most_body_room → ◌≡◌ {A = Result Parts ℕ} (Ok said) (Ok parts) → IsGood names parts
-      same small f = subst (IsGood names) (ok_same said parts f) (ascii, small, routes)
+      same : IsSmall framing → ◌≡◌ {A = Result Parts ℕ} (Ok said) (Ok parts) → IsGood names parts
+      same small f = subst (IsGood names) (ok_same said parts f) (ascii, small.0, routes, small.1, short_user user ascii short)
 
       typed : (b : Bool) → is_other_type (values_of (codes "content-type") headers) ≡ b → is_posted route ≡ true → posted_status framing ≡ None → IsGood names parts
       typed true is a n = absurd (err_not_ok 415 parts (rw (a, n, is) at e))
@@ -144,7 +169,7 @@ module _ (parts : Parts) (names : List (List ℕ)) where
       used : (framing : Framing) → framing_of (values_of (codes "content-length") headers) (values_of (codes "transfer-encoding") headers) ≡ Some framing
           → (o : Option (List ℕ)) → user_of (values_of (codes "x-cell-user") headers) ≡ o → IsGood names parts
       used framing f None is = absurd (err_not_ok 400 parts (rw (f, is, judge_headers) at e))
-      used framing f (Some user) is = in_body route framing user minor headers (of_ascii (values_of (codes "x-cell-user") headers) user is) routes (rw (f, is, judge_headers) at e)
+      used framing f (Some user) is = in_body route framing user minor headers (of_ascii (values_of (codes "x-cell-user") headers) user is) (of_short (values_of (codes "x-cell-user") headers) user is) routes (rw (f, is, judge_headers) at e)
 
       framed : (o : Option Framing) → framing_of (values_of (codes "content-length") headers) (values_of (codes "transfer-encoding") headers) ≡ o → IsGood names parts
       framed None is = absurd (err_not_ok 400 parts (rw (is, judge_headers) at e))

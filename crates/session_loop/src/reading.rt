@@ -2,7 +2,7 @@
 ghost use Rattle.std.specs.Prelude.{◌≡◌, ◌≤◌, ◌<◌, ◌+◌, ◌-◌, [], length, drop, OnOk};
 ghost use Rattle.session_loop.specs.Courses.{wrote};
 ghost use Rattle.session_loop.specs.Rooms.{body_room, body_steps, head_steps, HasRoom, Falls};
-ghost use Rattle.session_loop.specs.Safety.{IsRouted, IsSafe};
+ghost use Rattle.session_loop.specs.Safety.{IsInLimits, IsSafe};
 ghost use Rattle.session_loop.specs.Sessions.{IsSettled, WantsIs, Leads, Tracks, LeadsBy, TracksBy, LeadsInBody, TracksInBody};
 
 use crate::input::add_piece;
@@ -21,7 +21,7 @@ impl Session {
         ensures tracks { OnOk result (TracksInBody self.old route close (drop at self.old.input) self.new) }
         ensures settled { OnOk result (IsSettled self.new) }
         ensures names { OnOk result (self.new.names ≡ self.old.names) }
-        ensures safe { OnOk result (IsRouted self.old.names route → IsSafe self.new) }
+        ensures safe { OnOk result (IsInLimits self.old route → IsSafe self.new) }
         ensures room { OnOk result (1 ≤ self.old.left → HasRoom self.new (body_steps (body_room self.old.body - length (drop at self.old.input)) self.old.left)) }
     {
         let length = self.input.len();

@@ -65,7 +65,7 @@ impl Session {
         ensures tracks { OnOk result (TracksBy self.old (told moment) self.new) }
         ensures settled { OnOk result (IsSettled self.new) }
         ensures names { OnOk result (self.new.names ≡ self.old.names) }
-        ensures safe { OnOk result (moment < 2 ^ 40 → IsSafe self.new) }
+        ensures safe { OnOk result (moment < 2 ^ 40 → IsSafe self.old → IsSafe self.new) }
         ensures falls { OnOk result (Falls self.old self.new) }
     {
         match read_envelope(self.alloc, self.body.body()) {

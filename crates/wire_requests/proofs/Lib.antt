@@ -8,3 +8,4 @@ pub mod RequestLaws
 pub mod OneAnswer
 pub mod ComputedRequests
 pub mod RequestStands
+pub mod Weighing

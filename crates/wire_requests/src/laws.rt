@@ -1,9 +1,10 @@
 //! What holds of requests themselves. Each is the contract of a function that does nothing.
 
-ghost use Rattle.std.specs.Prelude.{◌≡◌, ℕ, ◌+◌, ◌<◌, ◌↔◌, List, Some};
+ghost use Rattle.std.specs.Prelude.{◌≡◌, ℕ, ◌+◌, ◌*◌, ◌<◌, ◌≤◌, ◌↔◌, List, Some, length};
 ghost use Rattle.std.specs.List.{AllByRecursion};
 ghost use Rattle.stream_objects.specs.Trees.{IsTreeAt};
 ghost use Rattle.stream_objects.specs.declared.tree.Tree.{Tree};
+ghost use Rattle.doc_model.specs.rules.Weights.{weight_of};
 ghost use Rattle.doc_model.specs.wire.Walks.{walk};
 ghost use Rattle.doc_model.specs.wire.Requests.{IsRequest};
 ghost use Rattle.doc_model.specs.wire.FittingRequests.{FitsRequest};
@@ -31,4 +32,9 @@ pub fn written_request()
 /// more levels meets no others.
 pub fn whole_walk()
     ensures { (input : List ℕ) (t : Tree) (from next more : ℕ) → IsTreeAt input t from next → walk (12 + more) t ≡ walk 12 t }
+{}
+
+/// The elements of a request are written in at most five bytes for each four of the request.
+pub fn what_is_put_is_hardly_longer()
+    ensures { (bytes : List ℕ) (request : CellRequest) → IsRequest bytes request → 4 * weight_of request.elements ≤ 5 * length bytes }
 {}

@@ -7,7 +7,8 @@ use Rattle.doc_model.specs.declared.reply.Reply.{Reply}
 use Rattle.doc_model.specs.declared.reply.Submitted.{Submitted}
 use Rattle.doc_model.specs.declared.reply.Submitted.TheVariants.{Answered}
 use Rattle.doc_model.specs.rules.Apply.{apply, replay}
-use Rattle.doc_model.specs.rules.Histories.{History, can_move, EachMoves, IsHistory, Fits, Placed, Stands, calls_by, Attempt, HasCause, Tried}
+use Rattle.doc_model.specs.rules.Changes.{can_move}
+use Rattle.doc_model.specs.rules.Histories.{History, EachMoves, IsHistory, Fits, Placed, Stands, calls_by, Attempt, HasCause, Tried}
 use Rattle.doc_model.specs.rules.Sound.{Sound, Valid}
 use Rattle.doc_model.specs.rules.Effects.{Effect}
 

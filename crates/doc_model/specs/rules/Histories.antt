@@ -2,38 +2,19 @@
 -- one caller stand.
 use Rattle.std.specs.Prelude.{◌≡◌, ℕ, ◌+◌, ◌-◌, ◌^◌, ◌==◌, ◌≤◌, min, Bool, true, false, ◌&&◌, if◌then◌else◌, List, [], ◌∷◌, length, map, filter, filter_map, take, slice_get, All, Option, None, Some}
 use Rattle.doc_model.specs.declared.call.Call.{Call}
-use Rattle.doc_model.specs.declared.call.Sub.{Sub}
-use Rattle.doc_model.specs.declared.call.Sub.TheVariants as sub
 use Rattle.doc_model.specs.declared.doc.Doc.{Doc}
-use Rattle.doc_model.specs.declared.lock.LockStep.{LockStep}
-use Rattle.doc_model.specs.declared.lock.LockStep.TheVariants.{CheckExclusive, CheckShared, Status, Mark}
 use Rattle.doc_model.specs.declared.made.Made.{Made}
 use Rattle.doc_model.specs.declared.reply.Reply.{Reply}
 use Rattle.doc_model.specs.declared.reply.Submitted.{Submitted}
 use Rattle.doc_model.specs.declared.reply.Submitted.TheVariants.{Answered, DiskFault, JournalFull, NoMemory}
 use Rattle.doc_model.specs.rules.Apply.{apply, replay}
+use Rattle.doc_model.specs.rules.Changes.{can_move}
 use Rattle.doc_model.specs.rules.Limits.{most_bodies}
 use Rattle.doc_model.specs.rules.Sound.{Sound, Valid}
 use Rattle.doc_model.specs.rules.Effects.{Effect}
 
 abbrev pub History : Type 0
 History = List (ℕ × Call)
-
--- the kinds of calls that may be changes: the others read
-abbrev pub can_lock : LockStep → Bool
-can_lock (CheckExclusive id) = false
-can_lock (CheckShared schema) = false
-can_lock (Status schema client) = false
-can_lock (Mark schema client) = false
-can_lock _ = true
-
-abbrev pub can_move : Sub → Bool
-can_move (sub.Put p) = true
-can_move (sub.Draw count) = true
-can_move (sub.Lock step) = can_lock step
-can_move (sub.Editor step) = true
-can_move (sub.Restore number carried) = true
-can_move _ = false
 
 -- each of these calls moves where it stands
 abbrev pub EachMoves : Doc → History → Type 0

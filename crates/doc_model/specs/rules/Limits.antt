@@ -1,6 +1,6 @@
 -- The limits of a document, which stand in src/limits.rt.
 use Rattle.std.specs.Prelude.{ℕ}
-use Rattle.doc_model.specs.declared.limits.TheConstants.{MOST_OBJECTS, MOST_ADDED, MOST_ADDED_WEIGHT, MOST_REACHED_WEIGHT, MOST_FILE, MOST_HIGH, MOST_PARTS, MOST_PARTS_WEIGHT, DAY, MOST_SHARING, MOST_EDITORS, MOST_KEYS, MOST_KEY_BYTES, MOST_ELEMENTS, MOST_SUB_REQUESTS, MOST_PUTS, MOST_REVISIONS, MOST_BODIES}
+use Rattle.doc_model.specs.declared.limits.TheConstants.{MOST_OBJECTS, MOST_ADDED, MOST_ADDED_WEIGHT, MOST_REACHED_WEIGHT, MOST_FILE, MOST_HIGH, MOST_PARTS, MOST_PARTS_WEIGHT, DAY, MOST_SHARING, MOST_EDITORS, MOST_KEYS, MOST_KEY_BYTES, MOST_ELEMENTS, MOST_SUB_REQUESTS, MOST_PUTS, MOST_REVISIONS, MOST_BODIES, MOST_BODY}
 
 -- stream objects that are written for one element
 abbrev pub most_objects : ℕ
@@ -68,3 +68,7 @@ most_revisions = MOST_REVISIONS
 -- bodies of a journal
 abbrev pub most_bodies : ℕ
 most_bodies = MOST_BODIES
+
+-- bytes of one of them
+abbrev pub most_body : ℕ
+most_body = MOST_BODY

@@ -14,6 +14,7 @@ use Rattle.doc_model.specs.declared.editor.Editor.{Editor}
 use Rattle.doc_model.specs.declared.element.Element.{Element}
 use Rattle.doc_model.specs.declared.lock.LockRecord.{LockRecord}
 use Rattle.doc_model.specs.declared.lock.LockRecord.TheVariants.{Free, Exclusive, Shared}
+use Rattle.doc_model.specs.rules.Changes.{IsShort}
 use Rattle.doc_model.specs.rules.Drawing.{last_number}
 use Rattle.doc_model.specs.rules.Editing.{editor_timeout_of}
 use Rattle.doc_model.specs.rules.Files.{file}
@@ -90,7 +91,8 @@ IsValidSub (sub.Lock step) = IfSome (timeout_of step) IsValidTimeout
 IsValidSub (sub.Editor step) = IfSome (editor_timeout_of step) IsValidTimeout
 IsValidSub _ = Unit {0}
 
--- A call that may be made.
+-- A call that may be made. The body of a change is not too long.
 pub record Valid (call : Call) : Type 0 where
   pub moment : call.moment < 2 ^ 40
   pub sub : IsValidSub call.sub
+  pub short : IsShort call

@@ -1,5 +1,5 @@
 use Rattle.std.proofs.Common.{refl}
-use Rattle.change_record.specs.Changes.{put_element_bytes}
+use Rattle.doc_model.specs.wire.ChangeBodies.{put_element_bytes}
 use Rattle.change_record.proofs.Pieces.{not_this}
 use Rattle.change_record.proofs.behind.behind_elements.Goals as goal
 

@@ -1,6 +1,6 @@
 use Rattle.std.proofs.Common.{◌<◌, length, arith}
 use Rattle.std.specs.List.{flat_map}
-use Rattle.change_record.specs.Changes.{put_element_bytes}
+use Rattle.doc_model.specs.wire.ChangeBodies.{put_element_bytes}
 use Rattle.change_record.proofs.FrontElements.{one_more, step_todo}
 use Rattle.change_record.proofs.elements.only_elements.Goals as goal
 

@@ -1,7 +1,7 @@
 use Rattle.std.proofs.Common.{ℕ, List, ◌++◌, ap, ◌∙◌}
 use Rattle.std.specs.List.{flat_map}
-use Rattle.change_record.specs.Changes.{head_of, put_element_bytes, front_of, change_bytes}
-use Rattle.change_record.specs.Rows.{front, head}
+use Rattle.doc_model.specs.wire.ChangeBodies.{head_of, put_element_bytes, front_of, change_bytes}
+use Rattle.doc_model.specs.wire.ChangeRows.{front, head}
 use Rattle.change_record.proofs.Pieces.{no_front_piece, no_elements, nothing_behind, upload_parts}
 use Rattle.change_record.proofs.read.is_upload.Goals as goal
 

@@ -1,7 +1,7 @@
 use Rattle.std.proofs.Common.{◌≡◌, ℕ, Option, Some, sym, ap, subst, ◌∙◌}
 use Rattle.std.specs.Prelude.{IfOk}
 use Rattle.doc_model.specs.declared.call.Sub.{Sub}
-use Rattle.change_record.specs.Changes.{kind_of}
+use Rattle.doc_model.specs.wire.ChangeBodies.{kind_of}
 use Rattle.change_record.specs.Steps.{asked_of}
 use Rattle.change_record.proofs.Again.{asked_again}
 use Rattle.change_record.proofs.Bodies.{upload_in}

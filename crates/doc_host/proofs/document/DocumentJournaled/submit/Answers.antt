@@ -8,7 +8,7 @@ use Rattle.doc_host.proofs.document.DocumentJournaled.submit.Goals as goal
 pub invariant_of-self : goal.invariant_of-self
 invariant_of-self g c = record {
   journaled = ∥∥₁_map c.args.self.now.journaled c.submit.ensures.journaled;
-  valid = subst (All (λ item. Valid item.1)) (sym c.submit.ensures.gains) (valid_gained _ c.args.caller c.args.call.now c.submit.result _ c.args.self.now.valid c.requires.valid);
+  valid = subst (All (λ item. Valid item.1)) (sym c.submit.ensures.gains) (valid_gained _ c.args.caller c.args.call.now c.submit.result _ c.args.self.now.valid c.requires);
 }
 
 pub returns-clause-opening : goal.returns-clause-opening

@@ -1,6 +1,6 @@
 use Rattle.std.proofs.Common.{refl}
 use Rattle.std.specs.Prelude.{option_map}
-use Rattle.change_record.specs.Changes.{change_bytes}
+use Rattle.doc_model.specs.wire.ChangeBodies.{change_bytes}
 use Rattle.journaled_doc.specs.Eras.{bodies}
 use Rattle.journaled_doc.specs.Standing.{tried_of}
 use Rattle.journaled_doc.proofs.Keeping.{on_err, stands_alone, stands_still}

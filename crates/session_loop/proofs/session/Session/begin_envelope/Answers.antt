@@ -1,4 +1,4 @@
-use Rattle.std.proofs.Common.{◌≡◌, ℕ, List, ◌∙◌, sym, ap}
+use Rattle.std.proofs.Common.{◌≡◌, ◌≤◌, ℕ, List, ◌∙◌, sym, ap}
 use Rattle.http_head.specs.declared.target.Route.TheVariants as route
 use Rattle.envelope_read.specs.Verdicts.{verdict}
 use Rattle.collection_run.specs.Collections.{process}
@@ -12,7 +12,10 @@ use Rattle.session_loop.proofs.Rooming.{timing_falls, refusing_room}
 use Rattle.std.proofs.Common.{length}
 use Rattle.collection_run.specs.Processes.{IsServable, AtMost}
 use Rattle.collection_run.proofs.Servable.{servable}
-use Rattle.session_loop.proofs.Safe.{refusing_safe}
+use Rattle.session_loop.proofs.BodyWithin.{came_within}
+use Rattle.session_loop.proofs.Safe.{at_safe, refusing_safe}
+use Rattle.session_loop.specs.Safety.{IsShortUser}
+use Rattle.session_loop.specs.declared.stage.Stage.TheVariants.{Timing}
 use Rattle.session_loop.specs.Rooms.{later}
 use Rattle.session_loop.proofs.session.Session.begin_envelope.Goals as goal
 
@@ -41,10 +44,15 @@ returns-in_ok-run_on-in-Ok-clause-falls c =
     (λ some. c.in_ok-run_on-in-Ok.ensures.room some 4_096 few)
 
 pub returns-in_ok-run_on-in-Ok-clause-safe : goal.returns-in_ok-run_on-in-Ok-clause-safe
-returns-in_ok-run_on-in-Ok-clause-safe c below =
+returns-in_ok-run_on-in-Ok-clause-safe c below safe =
     let s = c.self.inside in
+    let m = c.args.self.now in
+    let limits = at_safe (Timing route.Cells c.args.close) m c.requires safe in
+    let body_is : m.body.body ≡ c.body.result.now = sym (c.body.ensures ∙ ap (λ (x : Machine). x.body.body) c.self.view_is) in
+    let few : length c.body.result.now ≤ 25_165_824 = subst (λ (l : List ℕ). length l ≤ 25_165_824) body_is (came_within m.body limits.1) in
+    let user : IsShortUser s.user = subst IsShortUser (sym (ap (λ (x : Machine). x.user) c.self.view_is)) limits.2 in
     let served : IsServable (length s.names) (process_of c.in_ok-runner-in-Ok.runner) =
-    subst (IsServable (length s.names)) (sym c.in_ok-runner-in-Ok.ensures.1) (servable _ c.body.result.now c.in-Ok.collection below c.in-Ok.ensures.reads) in
+    subst (IsServable (length s.names)) (sym c.in_ok-runner-in-Ok.ensures.1) (servable _ c.body.result.now c.in-Ok.collection below user few c.in-Ok.ensures.reads) in
     c.in_ok-run_on-in-Ok.ensures.safe (subst (λ (names : List (List ℕ)). IsServable (length names) (process_of c.in_ok-runner-in-Ok.runner)) (ap (λ (x : Machine). x.names) c.self.view_is) served)
 
 pub returns-in_ok-refuse-in-Err-clause-leads : goal.returns-in_ok-refuse-in-Err-clause-leads
@@ -66,4 +74,4 @@ returns-in_ok-refuse-in-Err-clause-falls c =
     (λ some. refusing_room c.refuse.new.self c.in_ok-status-in-Err.status (1 + later m.left) c.in_ok-refuse-in-Err.ensures.is (omega arith))
 
 pub returns-in_ok-refuse-in-Err-clause-safe : goal.returns-in_ok-refuse-in-Err-clause-safe
-returns-in_ok-refuse-in-Err-clause-safe c below = refusing_safe c.refuse.new.self c.in_ok-status-in-Err.status c.in_ok-refuse-in-Err.ensures.is
+returns-in_ok-refuse-in-Err-clause-safe c below safe = refusing_safe c.refuse.new.self c.in_ok-status-in-Err.status c.in_ok-refuse-in-Err.ensures.is

@@ -7,7 +7,8 @@ use Rattle.session_loop.specs.declared.stage.Stage.TheVariants.{InBody, Timing}
 use Rattle.session_loop.proofs.Tracking.{more_tracks, done_tracks, bad_tracks}
 use Rattle.session_loop.proofs.ReadBytes.{more_leads, done_leads, bad_leads, feeds_at, place_behind}
 use Rattle.session_loop.proofs.Rooming.{more_in_body, done_in_body, refusing_room}
-use Rattle.session_loop.specs.Safety.{IsRouted}
+use Rattle.session_loop.proofs.BodyWithin.{more_within, done_within}
+use Rattle.session_loop.specs.Safety.{IsInLimits}
 use Rattle.session_loop.proofs.Safe.{refusing_safe}
 use Rattle.session_loop.specs.Rooms.{body_room, body_steps}
 use Rattle.session_loop.proofs.session.Session.read_body.Goals as goal
@@ -101,10 +102,24 @@ returns-in_ok-refuse-in-Bad-clause-room c some =
     refusing_room c.refuse.new.self c.in-Bad.status (body_steps (body_room m.body - length (drop c.args.at m.input)) m.left) c.in_ok-refuse-in-Bad.ensures.is (omega arith)
 
 pub returns-in_ok-refuse-in-Bad-clause-safe : goal.returns-in_ok-refuse-in-Bad-clause-safe
-returns-in_ok-refuse-in-Bad-clause-safe c routed = refusing_safe c.refuse.new.self c.in-Bad.status c.in_ok-refuse-in-Bad.ensures.is
+returns-in_ok-refuse-in-Bad-clause-safe c limits = refusing_safe c.refuse.new.self c.in-Bad.status c.in_ok-refuse-in-Bad.ensures.is
 
 pub returns-in-More-clause-safe : goal.returns-in-More-clause-safe
-returns-in-More-clause-safe c routed = subst (λ (names : List (List ℕ)). IsRouted names c.args.route) (sym (ap (λ (x : Machine). x.names) c.self.view_is)) routed
+returns-in-More-clause-safe c limits =
+    let s = c.self.inside in
+    let m = c.args.self.now in
+    let feeds : Feeds m.body (drop c.args.at m.input) c.feed.new.self More =
+    feeds_at s.from c.args.at s.input s.body m c.feed.new.self (ap (λ (x : Machine). x.input) c.self.view_is) (ap (λ (x : Machine). x.body) c.self.view_is) More
+    (rw (c.as_slice.ensures, c.len-length.ensures, c.in-More.is) at c.in_ok-feed.ensures.fed) in
+    let same = subst (λ (x : Machine). IsInLimits x c.args.route) (sym c.self.view_is) limits in
+    (same.0, more_within m.body c.feed.new.self (drop c.args.at m.input) feeds limits.1, same.2)
 
 pub returns-in-Done-clause-safe : goal.returns-in-Done-clause-safe
-returns-in-Done-clause-safe c routed = subst (λ (names : List (List ℕ)). IsRouted names c.args.route) (sym (ap (λ (x : Machine). x.names) c.self.view_is)) routed
+returns-in-Done-clause-safe c limits =
+    let s = c.self.inside in
+    let m = c.args.self.now in
+    let feeds : Feeds m.body (drop c.args.at m.input) c.feed.new.self (Done c.in-Done.used) =
+    feeds_at s.from c.args.at s.input s.body m c.feed.new.self (ap (λ (x : Machine). x.input) c.self.view_is) (ap (λ (x : Machine). x.body) c.self.view_is) (Done c.in-Done.used)
+    (rw (c.as_slice.ensures, c.len-length.ensures, c.in-Done.is) at c.in_ok-feed.ensures.fed) in
+    let same = subst (λ (x : Machine). IsInLimits x c.args.route) (sym c.self.view_is) limits in
+    (same.0, done_within m.body c.feed.new.self (drop c.args.at m.input) c.in-Done.used feeds limits.1, same.2)

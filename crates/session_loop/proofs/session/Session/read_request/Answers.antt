@@ -13,6 +13,7 @@ use Rattle.session_loop.proofs.ReadBytes.{long_leads, bad_head_leads, head_leads
 use Rattle.std.proofs.Common.{◌≤◌, ◌+◌, arith}
 use Rattle.session_loop.proofs.Rooming.{more_room}
 use Rattle.session_loop.proofs.Safe.{refusing_safe}
+use Rattle.session_loop.specs.Safety.{IsWithin, IsShortUser}
 use Rattle.session_loop.specs.Rooms.{body_room, most_body_room, later, head_steps}
 use Rattle.session_loop.proofs.session.Session.read_request.Goals as goal
 
@@ -135,4 +136,5 @@ returns-clause-safe c =
     let s = c.self.inside in
     let h = c.in-Ok.head in
     let bytes : List ℕ = take c.in-At.end (take (length c.as_slice.result.now - s.from) (drop s.from c.as_slice.result.now)) in
-    c.in_ok-read_body.ensures.safe (read_is_good (record { route = h.route; framing = h.framing; close = h.close; user = user_at bytes h.user.from h.user.to }) s.names bytes c.in-Ok.ensures.verdict).2
+    let good = read_is_good (record { route = h.route; framing = h.framing; close = h.close; user = user_at bytes h.user.from h.user.to }) s.names bytes c.in-Ok.ensures.verdict in
+    c.in_ok-read_body.ensures.safe (good.2, subst IsWithin (sym c.new.ensures) good.3, subst IsShortUser (sym c.in_ok-self-inside.ensures) good.4)

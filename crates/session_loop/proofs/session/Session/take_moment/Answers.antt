@@ -65,12 +65,12 @@ pub returns-in-Front-clause-safe : goal.returns-in-Front-clause-safe
 returns-in-Front-clause-safe c below safe =
     let at = sym (ap (λ (x : Machine). x.stage) c.self.view_is) ∙ c.in-Timing.is in
     subst (λ (names : List (List ℕ)). IsRouted names (route.Front c.in-Front.doc)) (sym (ap (λ (x : Machine). x.names) c.self.view_is))
-    (subst (IsRouted c.args.self.now.names) c.in-Front.is (at_safe (Timing c.in-Timing.route c.in-Timing.close) c.args.self.now at safe))
+    (subst (IsRouted c.args.self.now.names) c.in-Front.is (at_safe (Timing c.in-Timing.route c.in-Timing.close) c.args.self.now at safe).0)
 
 pub returns-in_ok-user-in-File-clause-safe : goal.returns-in_ok-user-in-File-clause-safe
 returns-in_ok-user-in-File-clause-safe c below safe =
     let at = sym (ap (λ (x : Machine). x.stage) c.self.view_is) ∙ c.in-Timing.is in (
       subst (λ (names : List (List ℕ)). IsRouted names (route.File c.in-File.doc)) (sym (ap (λ (x : Machine). x.names) c.self.view_is))
-          (subst (IsRouted c.args.self.now.names) c.in-File.is (at_safe (Timing c.in-Timing.route c.in-Timing.close) c.args.self.now at safe)),
-      record { moment = below; sub = tt },
+          (subst (IsRouted c.args.self.now.names) c.in-File.is (at_safe (Timing c.in-Timing.route c.in-Timing.close) c.args.self.now at safe).0),
+      record { moment = below; sub = tt; short = λ kind. absurd cc },
     )

@@ -8,7 +8,7 @@ use Rattle.session_loop.proofs.ReadBytes.{body_like}
 use Rattle.std.proofs.Common.{◌≤◌}
 use Rattle.session_loop.proofs.BodyRoom.{open_room}
 use Rattle.session_loop.proofs.Rooming.{body_falls, heading_falls}
-use Rattle.session_loop.specs.Safety.{IsRouted}
+use Rattle.session_loop.specs.Safety.{IsInLimits}
 use Rattle.session_loop.specs.declared.stage.Stage.TheVariants.{InBody}
 use Rattle.session_loop.proofs.Safe.{at_safe}
 use Rattle.session_loop.specs.Rooms.{body_room, body_steps, head_steps, HasRoom}
@@ -92,5 +92,5 @@ pub returns-in_ok-read_body-in-InBody-clause-safe : goal.returns-in_ok-read_body
 returns-in_ok-read_body-in-InBody-clause-safe c safe =
     let at = sym (ap (λ (x : Machine). x.stage) c.self.view_is) ∙ c.in-InBody.is in
     c.in_ok-read_body-in-InBody.ensures.safe
-    (subst (λ (names : List (List ℕ)). IsRouted names c.in-InBody.route) (sym (ap (λ (x : Machine). x.names) c.self.view_is))
+    (subst (λ (x : Machine). IsInLimits x c.in-InBody.route) (sym c.self.view_is)
     (at_safe (InBody c.in-InBody.route c.in-InBody.close) c.args.self.now at safe))

@@ -3,7 +3,7 @@ use Rattle.std.specs.Prelude.{ℕ, Bool, List, ◌++◌, Option}
 use Rattle.compact_values.specs.declared.guid.Guid.{Guid}
 use Rattle.compact_values.specs.declared.ids.ExGuid.{ExGuid}
 use Rattle.wire_kinds.specs.Kind.{Kind, ◌▹◌, compact, guid, exguid, item}
-use Rattle.change_record.specs.Kinds.{tag, byte, flag, text, carried}
+use Rattle.doc_model.specs.wire.ChangeKinds.{tag, byte, flag, text, carried}
 
 -- what stands before what is asked: the number of the kind, the moment and the user
 abbrev pub front : Kind (ℕ × (ℕ × List ℕ))
