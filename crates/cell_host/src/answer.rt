@@ -1,5 +1,6 @@
 // The command `answer`: one request from the source, and its response to the sink.
-ghost use Rattle.std.specs.Prelude.{◌≡◌, ◌<◌, ◌^◌, ℕ, List, IfOk, MatchOption};
+ghost use Rattle.std.specs.Prelude.{◌≡◌, ◌<◌, ◌≤◌, ◌^◌, ℕ, List, IfOk, MatchOption, length};
+ghost use Rattle.http_head.specs.declared.body.TheConstants.{BODY_LIMIT};
 ghost use Rattle.cell_host.specs.Answer.{IsAccepted};
 ghost use Rattle.cell_host.specs.Answering.{Answering};
 ghost use Rattle.cell_host.specs.Serving.{answers_of};
@@ -44,7 +45,7 @@ pub(crate) fn answers_on<C: Core>(
     request: &CellRequest,
 ) -> Result<Answers, NoMemory>
     requires below { moment < 2 ^ 40 }
-    requires request { (bytes : List ℕ) × IsRequest bytes request.now }
+    requires request { (bytes : List ℕ) × IsRequest bytes request.now × (length bytes ≤ BODY_LIMIT) }
     ensures { IfOk result (λ answers. answers ≡ answers_of moment request.now.elements (C.doc core.old) request.now.subs) }
 {
     let subs = request.subs.as_slice();
@@ -60,7 +61,7 @@ fn respond(
     request: &CellRequest,
 ) -> Result<Octets, NoMemory>
     requires below { moment < 2 ^ 40 }
-    requires request { (bytes : List ℕ) × IsRequest bytes request.now }
+    requires request { (bytes : List ℕ) × IsRequest bytes request.now × (length bytes ≤ BODY_LIMIT) }
     ensures { IfOk result (λ bytes. bytes ≡ response (answers_of moment request.now.elements (empty_doc guid) request.now.subs)) }
 {
     let mut core = PlainCore::new(alloc, guid)?;

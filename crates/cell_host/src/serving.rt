@@ -1,9 +1,10 @@
 // Running the sub-requests of a request on a document.
 ghost use Rattle.std.specs.Prelude.{◌≡◌, ◌<◌, ◌≤◌, ◌^◌, length, All, IfOk, IfSome};
 ghost use Rattle.doc_model.specs.rules.Apply.{apply};
+ghost use Rattle.doc_model.specs.rules.Changes.{sent_weight};
 ghost use Rattle.doc_model.specs.rules.Limits.{most_elements, most_objects};
 ghost use Rattle.doc_model.specs.rules.Sound.{IsValidSub, Valid};
-ghost use Rattle.doc_model.specs.rules.Weights.{objects_written};
+ghost use Rattle.doc_model.specs.rules.Weights.{objects_written, weight_of};
 ghost use Rattle.cell_host.specs.Serving.{anonymous, answer_to, answers_of, asked, call_of, has_flag, put_of, effect, effect_of};
 
 use compact_values::{Copied, ExGuid, NoMemory, Seq, Text};
@@ -75,6 +76,7 @@ fn anonymous(alloc: Global) -> Result<Text, NoMemory>
 fn ask<C: Core>(alloc: Global, core: &mut C, moment: u64, sub: Sub) -> Result<Reply, NoMemory>
     requires below { moment < 2 ^ 40 }
     requires valid { IsValidSub sub }
+    requires short { sent_weight sub ≤ 31_457_280 }
     ensures reply { IfOk result (λ reply. reply ≡ (apply (C.doc core.old) (call_of moment sub)).reply) }
     ensures doc { IfOk result (λ reply. C.doc core.new ≡ (apply (C.doc core.old) (call_of moment sub)).doc) }
 {
@@ -91,6 +93,7 @@ fn run_asked<C: Core>(
 ) -> Result<Reply, NoMemory>
     requires below { moment < 2 ^ 40 }
     requires valid { IfSome asked IsValidSub }
+    requires short { IfSome asked (λ sub. sent_weight sub ≤ 31_457_280) }
     ensures reply { IfOk result (λ reply. reply ≡ (effect_of moment (C.doc core.old) asked).reply) }
     ensures doc { IfOk result (λ reply. C.doc core.new ≡ (effect_of moment (C.doc core.old) asked).doc) }
 {
@@ -113,6 +116,7 @@ fn run_sub<C: Core>(
     requires below { moment < 2 ^ 40 }
     requires few { length elements.now ≤ most_elements }
     requires light { All (λ e. objects_written e ≤ most_objects) elements.now }
+    requires short { weight_of elements.now ≤ 31_457_280 }
     ensures answer { IfOk result (λ answer. answer ≡ answer_to sub.now (effect moment elements.now (C.doc core.old) sub.now)) }
     ensures doc { IfOk result (λ answer. C.doc core.new ≡ (effect moment elements.now (C.doc core.old) sub.now).doc) }
 {
@@ -138,6 +142,7 @@ pub fn run_subs<C: Core>(
     requires below { moment < 2 ^ 40 }
     requires few { length elements.now ≤ most_elements }
     requires light { All (λ e. objects_written e ≤ most_objects) elements.now }
+    requires short { weight_of elements.now ≤ 31_457_280 }
     ensures { IfOk result (λ answers. answers ≡ answers_of moment elements.now (C.doc core.old) subs.now) }
 {
     let mut answers = Seq::new(alloc);

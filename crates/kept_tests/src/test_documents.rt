@@ -1,11 +1,7 @@
 // Documents on disks in memory, and calls on them. Each call is first seen to be one that may be made, so that no test has to
 // prove it.
-ghost use Rattle.std.specs.Prelude.{◌≡◌, IsTrue};
-ghost use Rattle.doc_model.specs.rules.Changes.{IsShort};
-
 use cell_journal::Reading;
-use change_record::limits::MOST_BODY;
-use change_record::{can_move, is_valid, write_change};
+use change_record::is_valid;
 use compact_values::{Guid, Text};
 use doc_model::{Call, Core, Sub, Submitted};
 use host_edge::{Disk, MemDisk};
@@ -50,21 +46,9 @@ pub fn call(alloc: Global, moment: u64, sub: Sub) -> Option<Call> {
     })
 }
 
-fn is_short(alloc: Global, call: &Call) -> bool
-    ensures { IsTrue result → IsShort call.now }
-{
-    if !can_move(&call.sub) {
-        return true;
-    }
-    match write_change(alloc, call) {
-        Ok(body) => body.len() <= MOST_BODY,
-        Err(_) => false,
-    }
-}
-
 /// Makes a call as this caller. None where it may not be made.
 pub fn submit(alloc: Global, doc: &mut Kept, caller: u32, call: &Call) -> Option<Submitted> {
-    if !is_valid(call) || !is_short(alloc, call) {
+    if !is_valid(call) {
         return None;
     }
     Some(doc.submit(alloc, caller, call))
