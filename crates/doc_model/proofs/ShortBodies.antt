@@ -1,5 +1,5 @@
 -- The body of a change has few bytes beside its user and what it sends.
-use Rattle.std.proofs.Common.{◌≡◌, ℕ, ◌+◌, ◌≤◌, Bool, Option, Some, None, List, [], ◌∷◌, ◌++◌, length, refl, arith}
+use Rattle.std.proofs.Common.{◌≡◌, ℕ, ◌+◌, ◌≤◌, Bool, Some, None, List, [], ◌∷◌, ◌++◌, length, refl, arith}
 use Rattle.std.specs.List.{flat_map}
 use Rattle.std.specs.Str.{encode_utf8_all}
 use Rattle.std.proofs.lemmas.List.{length-append}
@@ -8,7 +8,6 @@ use Rattle.compact_values.specs.Ids.{guid_spelling}
 use Rattle.compact_values.specs.declared.guid.Guid.{Guid}
 use Rattle.wire_kinds.specs.Kind.{Kind, ◌▹◌, compact, guid, exguid}
 use Rattle.wire_kinds.specs.Short.{Short, short_pair, short_compact, short_exguid}
-use Rattle.doc_model.specs.declared.call.Call.{Call}
 use Rattle.doc_model.specs.declared.call.Put.{Put}
 use Rattle.doc_model.specs.declared.call.Sub.{Sub}
 use Rattle.doc_model.specs.declared.call.Sub.TheVariants as sub
@@ -21,7 +20,7 @@ use Rattle.doc_model.specs.laws.Changes.{FewBeside, SmallIsShort}
 use Rattle.doc_model.specs.rules.Changes.{edit_weight, sent_weight}
 use Rattle.doc_model.specs.rules.Weights.{weight, weight_of}
 use Rattle.doc_model.specs.wire.ChangeBodies.{put_element_bytes, head_of, put_bytes, lock_bytes, edit_bytes, front_of, asked_bytes, change_bytes}
-use Rattle.doc_model.specs.wire.ChangeKinds.{tag, byte, flag, text, carried_bytes, carried}
+use Rattle.doc_model.specs.wire.ChangeKinds.{tag, byte, flag, text, carried}
 use Rattle.doc_model.specs.wire.ChangeRows.{front, head, restored, timed, two, two_timed, two_flagged, three_flagged, keyed, entry, numbered}
 use Rattle.doc_model.proofs.SizeBounds.{few-item}
 

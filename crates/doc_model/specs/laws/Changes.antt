@@ -1,5 +1,5 @@
 -- How many bytes the body of a change has.
-use Rattle.std.specs.Prelude.{ℕ, ◌+◌, ◌≤◌, length}
+use Rattle.std.specs.Prelude.{◌+◌, ◌≤◌, length}
 use Rattle.std.specs.Str.{encode_utf8_all}
 use Rattle.doc_model.specs.declared.call.Call.{Call}
 use Rattle.doc_model.specs.rules.Changes.{IsShort, sent_weight}
