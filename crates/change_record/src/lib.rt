@@ -12,7 +12,7 @@
 //! - `behind`: whether bytes begin with the elements of an upload
 //! - `valid`: whether a call may be made
 //! - `moving`: whether a call is of a kind that may move
-//! - `sizes`: how long a body is
+//! - `lengths`: how long a body is
 //! - `fits`, `fits_elements`: numbers in the ranges of their fields
 //! - `fault`: why bytes are no body
 //! - `laws`: what holds of all bodies
@@ -25,9 +25,9 @@ mod fits;
 mod fits_elements;
 mod kinds;
 pub mod laws;
+mod lengths;
 mod moving;
 mod read;
-mod sizes;
 mod steps;
 mod valid;
 mod write;

@@ -6,7 +6,7 @@ ghost use Rattle.doc_model.specs.rules.LockSteps.{timeout_of};
 ghost use Rattle.doc_model.specs.rules.Sound.{IsValidSub, IsValidTimeout, Valid};
 ghost use Rattle.doc_model.specs.rules.Weights.{objects_in, objects_written};
 
-use crate::sizes::is_short;
+use crate::lengths::is_short;
 use doc_model::limits::{DAY, MOST_ELEMENTS, MOST_OBJECTS};
 use doc_model::{Body, Call, EditorStep, Element, LockStep, Sub};
 

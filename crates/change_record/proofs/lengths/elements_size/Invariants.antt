@@ -1,7 +1,7 @@
 use Rattle.std.proofs.Common.{◌≡◌, ◌-◌, ◌^◌, min, length, take}
 use Rattle.std.specs.List.{flat_map}
 use Rattle.doc_model.specs.wire.ChangeBodies.{put_element_bytes}
-use Rattle.change_record.proofs.sizes.elements_size.Given as goal
+use Rattle.change_record.proofs.lengths.elements_size.Given as goal
 
 -- what those before this one take
 abbrev pub invariant-loop-element : goal.invariant-loop-element
