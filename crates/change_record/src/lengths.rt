@@ -6,7 +6,7 @@ ghost use Rattle.doc_model.specs.rules.Limits.{most_objects};
 ghost use Rattle.doc_model.specs.rules.Sound.{IsValidSub};
 ghost use Rattle.doc_model.specs.rules.Weights.{objects_written};
 ghost use Rattle.doc_model.specs.wire.ChangeBodies.{put_element_bytes, head_of, put_bytes, lock_bytes, edit_bytes, front_of, asked_bytes, change_bytes};
-ghost use Rattle.doc_model.specs.wire.ChangeKinds.{text, carried_bytes};
+ghost use Rattle.doc_model.specs.wire.ChangeKinds as kinds;
 ghost use Rattle.doc_model.specs.wire.ChangeRows.{front, head};
 
 use crate::moving::can_move;
@@ -25,7 +25,7 @@ const FLAG: u64 = 1;
 
 // A text.
 fn text_size(text: &Text) -> u128
-    ensures length { result ≡ length (text.bytes text.now) }
+    ensures length { result ≡ length (kinds.text.bytes text.now) }
     ensures few { result ≤ 2 ^ 65 }
 {
     item_size(text.as_str().as_bytes())
@@ -34,7 +34,7 @@ fn text_size(text: &Text) -> u128
 // A lock id that may be carried.
 #[tactic(auto, unfolding(doc_model::specs::wire::ChangeKinds::tag))]
 fn carried_size(carried: Option<Guid>) -> u64
-    ensures length { result ≡ length (carried_bytes carried) }
+    ensures length { result ≡ length (kinds.carried_bytes carried) }
     ensures few { result ≤ 17 }
 {
     match carried {
