@@ -1,8 +1,10 @@
 -- A store in memory.
-use Rattle.std.specs.Prelude.{◌≡◌, ℕ, List, [], ◌∷◌, if◌then◌else◌, Some, None, Contains, encode_utf8_all}
+use Rattle.std.specs.Prelude.{◌≡◌, ℕ, List, [], ◌∷◌, if◌then◌else◌, Some, None, Contains, position, length, encode_utf8_all}
+use Rattle.std.proofs.Common.{refl}
+use Rattle.document_store.specs.Disks.{SameBytes}
 use Rattle.std.specs.Str.{bytes_eq}
 use Rattle.std.specs.declared.option.Option.{Option}
-use Rattle.host_edge.specs.MemDisks.{DiskState}
+use Rattle.host_edge.specs.MemDisks.{DiskState, read_of, image_of, image_since}
 use Rattle.document_store.specs.Shelves.{Under, Nothing, Stands, Lent, Shelf}
 use Rattle.document_store.specs.declared.lent_disk.LentDisk.{LentDisk}
 use Rattle.document_store.specs.declared.slot.Slot.{Slot}
@@ -29,6 +31,18 @@ abbrev pub shelf_of : List Slot → Shelf MemLent
 shelf_of [] name = Nothing
 shelf_of (slot ∷ more) name = if bytes_eq name (name_of slot) then content_of slot.disk else shelf_of more name
 
+-- a disk on which no call was made
+abbrev pub new_disk : ℕ → ℕ → DiskState
+new_disk room most = record { kept = record { events = []; spent = 0; room = room; most = most }; fail = []; faults = 0 }
+
+-- the same bytes, as `SameBytes` has them
+abbrev pub IsSameDisk : MemLent → MemLent → Type 0
+IsSameDisk one other = SameBytes (λ l. Some (read_of l.disk.kept.events)) (λ l c. image_of l.disk.kept.events c) (λ l. length l.disk.kept.events)
+    (λ l t c. image_since l.disk.kept.events t c) one other
+
+pub same_bytes : (disk : DiskState) (place : Unit {0}) (m n : ℕ) → IsSameDisk (record { disk = disk; place = place; faults = m }) (record { disk = disk; place = place; faults = n })
+same_bytes disk place m n = record { reads = refl; images = λ c. (λ left. left, λ left. left); time = refl; since = λ t c. (λ left. left, λ left. left) }
+
 pub record StoreState : Type 0 where
   pub slots : List Slot
   -- the room and the calls of each disk that it begins
@@ -39,12 +53,12 @@ pub record StoreState : Type 0 where
   pub fail : List ℕ
   pub faults : ℕ
 
--- the call that comes next fails
-abbrev pub IsListed : StoreState → Type 0
-IsListed store = Contains store.fail store.calls
-
 -- What no call changes.
 pub record SameMaking (old new : StoreState) : Type 0 where
   pub room : new.room ≡ old.room
   pub most : new.most ≡ old.most
   pub fail : new.fail ≡ old.fail
+
+-- the first slot with the name
+abbrev pub slot_of : List ℕ → List Slot → Option ℕ
+slot_of name slots = position (λ slot. bytes_eq (name_of slot) name) slots

@@ -2,7 +2,7 @@
 //!
 //! - `store`: the trait, with what is under each name as its meaning; `fault` has why it refuses
 //! - `lent_disk`: a disk that is lent, which counts its faults from then on
-//! - `mem_store`: a store in memory, of which a `slot` has a name
+//! - `mem_store`: a store in memory, of which a `slot` has a name; `slots` lends out of them
 //! - `name`, `name_list`: which texts are names, and lists of names
 #![tactic(auto)]
 
@@ -12,6 +12,7 @@ mod mem_store;
 mod name;
 mod name_list;
 mod slot;
+mod slots;
 mod store;
 
 pub use fault::StoreFault;

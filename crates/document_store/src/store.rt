@@ -1,7 +1,7 @@
 // A store of disks under names, as what works with documents sees it.
 ghost use Rattle.std.specs.Prelude.{◌≡◌, ◌⊎◌, List, [], ℕ, map, IfOk, IfSome, OnOk, OnErr, Some, encode_utf8_all};
 ghost use Rattle.std.specs.declared.option.Option.{Option};
-ghost use Rattle.std.specs.Option.{option_map, ForSome};
+ghost use Rattle.std.specs.Option.{option_map};
 ghost use Rattle.document_store.specs.Causes.{TakesOver, Accounts};
 ghost use Rattle.document_store.specs.Disks.{SameBytes};
 ghost use Rattle.document_store.specs.Shelves.{Under, Stands, Lent, Shelf, put, IsStanding, IsLent, ArePublished, Lends};
@@ -39,7 +39,7 @@ pub trait Store {
 
     /// Lends the disk that stands under a published name. It has not failed since it was given back.
     fn fetch(&mut self, name: &str) -> Result<Self::Disk, StoreFault>
-        requires standing { ForSome (shelf self.old) (λ under. IsStanding (under name.now)) }
+        requires standing { IfSome (shelf self.old) (λ under. IsStanding (under name.now)) }
         ensures lent { IfOk result (λ disk. Lends name.now (shelf self.old) (shelf self.new) disk) }
         ensures refused { OnErr result (shelf self.new ≡ shelf self.old) }
         ensures unfailed { IfOk result (λ disk. Self.Disk.faults disk ≡ 0) }
@@ -56,7 +56,7 @@ pub trait Store {
     /// Gives the name to a disk that has none, and lends it on. The disk that stood under the name is gone. Where it is
     /// refused, the new disk is gone, or it stands under the name.
     fn publish(&mut self, name: &str, disk: Self::Disk) -> Result<Self::Disk, StoreFault>
-        requires free { ForSome (shelf self.old) (λ under. ¬ (IsLent (under name.now))) }
+        requires free { IfSome (shelf self.old) (λ under. ¬ (IsLent (under name.now))) }
         ensures named { OnOk result (shelf self.new ≡ option_map (put name.now Lent) (shelf self.old)) }
         ensures lent { IfOk result (λ on. SameBytes Self.Disk.seen Self.Disk.may_leave Self.Disk.moment Self.Disk.left_since disk on) }
         ensures failures { IfOk result (λ on. Self.Disk.faults on ≡ Self.Disk.faults disk) }
@@ -72,7 +72,7 @@ pub trait Store {
     /// Puts the disk back under its name, from which it was lent. Its count of faults begins anew, and the store's rises
     /// where it was not 0.
     fn give_back(&mut self, name: &str, disk: Self::Disk)
-        requires lent { ForSome (shelf self.old) (λ under. IsLent (under name.now)) }
+        requires lent { IfSome (shelf self.old) (λ under. IsLent (under name.now)) }
         ensures standing { shelf self.new ≡ option_map (put name.now (Stands (anew disk))) (shelf self.old) }
         ensures cause { TakesOver (Self.Disk.faults disk) (faults self.old) (faults self.new) };
 
