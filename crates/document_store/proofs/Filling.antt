@@ -1,20 +1,18 @@
 -- What is under a name, by slots.
-use Rattle.std.proofs.Common.{◌≡◌, ◌⊎◌, inl, inr, ◌∙◌, refl, sym, ap, subst, arith, ℕ, ◌+◌, ◌<◌, ◌≤◌, List, [], ◌∷◌, ◌++◌, length, Bool, true, false, not, cond, if◌then◌else◌, true≢false, Option, Some, None, slice_index_or, slice_set, bytes_eq}
+use Rattle.std.proofs.Common.{◌≡◌, ◌⊎◌, inl, inr, ◌∙◌, refl, sym, ap, subst, arith, ℕ, zero, suc, ◌+◌, ◌<◌, ◌≤◌, List, [], ◌∷◌, ◌++◌, length, Bool, true, false, not, cond, if◌then◌else◌, true≢false, Option, Some, None, slice_index_or, slice_set, bytes_eq, nat_lt, is_some}
+use Rattle.std.proofs.lemmas.Bool.Decides.{nat_tests}
+use Rattle.std.specs.Option.{unwrap_or}
 use Rattle.std.specs.List.{position_or_len}
 use Rattle.std.specs.Cmp.Lexicographic.{bytes_decides}
+use Rattle.std.specs.Str.{IsUtf8, chars, encode_utf8_all}
+use Rattle.compact_values.proofs.Texts.{encodes-chars}
 use Rattle.host_edge.specs.MemDisks.{DiskState}
 use Rattle.document_store.specs.Shelves.{Under, Nothing, Stands, Lent, put, IsPublished}
-use Rattle.document_store.specs.MemStores.{MemLent, name_of, content_of, shelf_of}
+use Rattle.document_store.specs.MemStores.{MemLent, name_of, content_of, shelf_of, slot_of, filled}
 use Rattle.document_store.specs.declared.slot.Slot.{Slot}
-
-Name : Type 0
-Name = List ℕ
 
 abbrev pub place : List ℕ → List Slot → ℕ
 place name slots = position_or_len (λ slot. bytes_eq (name_of slot) name) slots
-
-abbrev pub filled : Slot → Option DiskState → Slot
-filled slot disk = record { name = slot.name; disk = disk }
 
 same_if : {A : Type 0} (b : Bool) (u v w : A) → (if b then u else v) ≡ (if b then u else (if b then w else v))
 same_if true u v w = refl
@@ -27,30 +25,44 @@ swap_if false true u v w apart = refl
 swap_if false false u v w apart = refl
 
 apart : (n one other : List ℕ) → bytes_eq one other ≡ false → bytes_eq n one ≡ true → bytes_eq n other ≡ true → ⊥
-apart n one other no a b = true≢false (sym ((bytes_decides one other).1 (sym ((bytes_decides n one).0 a) ∙ (bytes_decides n other).0 b)) ∙ no)
+apart n one other differ a b = true≢false (sym ((bytes_decides one other).1 (sym ((bytes_decides n one).0 a) ∙ (bytes_decides n other).0 b)) ∙ differ)
 
-Goal : List ℕ → Option DiskState → List Slot → ℕ → Slot → List ℕ → Type 0
-Goal name d slots k s n = shelf_of (slice_set slots k (filled s d)) n ≡ put name (content_of d) (shelf_of slots) n
+flipped : (name other : List ℕ) (b : Bool) → bytes_eq name other ≡ b → bytes_eq other name ≡ false → b ≡ false
+flipped name other true is differ = absurd (true≢false (sym ((bytes_decides other name).1 (sym ((bytes_decides name other).0 is))) ∙ differ))
+flipped name other false is differ = refl
 
-step : (name : List ℕ) (d : Option DiskState) (x : Slot) (more : List Slot) (k : ℕ) (s : Slot) (n : List ℕ) (b : Bool) → bytes_eq (name_of x) name ≡ b
-    → (k < length more → s ≡ slice_index_or more k s → shelf_of (slice_set more k (filled s d)) n ≡ put name (content_of d) (shelf_of more) n)
-    → cond (not b) (1 + k) 0 < length (x ∷ more) → s ≡ slice_index_or (x ∷ more) (cond (not b) (1 + k) 0) s
-    → shelf_of (slice_set (x ∷ more) (cond (not b) (1 + k) 0) (filled s d)) n ≡ put name (content_of d) (shelf_of (x ∷ more)) n
-step name d x more k s n true hit ih lt is =
-    let here : name_of x ≡ name = (bytes_decides (name_of x) name).0 hit in
-    let named : name_of s ≡ name = ap name_of is ∙ here in
-    ap (λ (l : List ℕ). if bytes_eq n l then content_of d else shelf_of more n) named
-    ∙ same_if (bytes_eq n name) (content_of d) (shelf_of more n) (content_of x.disk)
-    ∙ ap (λ (l : List ℕ). if bytes_eq n name then content_of d else (if bytes_eq n l then content_of x.disk else shelf_of more n)) (sym here)
-step name d x more k s n false miss ih lt is =
-    ap (λ (u : Under MemLent). if bytes_eq n (name_of x) then content_of x.disk else u) (ih (omega (arith, lt)) is)
-    ∙ swap_if (bytes_eq n (name_of x)) (bytes_eq n name) (content_of x.disk) (content_of d) (shelf_of more n) (apart n (name_of x) name miss)
+at_front : (b : Bool) (n : ℕ) → 0 ≡ cond (not b) (1 + n) 0 → b ≡ true
+at_front true n is = refl
+at_front false n is = absurd (omega (arith, is))
+
+behind : (b : Bool) (k n : ℕ) → suc k ≡ cond (not b) (1 + n) 0 → (b ≡ false) × (k ≡ n)
+behind true k n is = absurd (omega (arith, is))
+behind false k n is = (refl, omega (arith, is))
 
 -- the first slot with the name is filled anew
-pub shelf_of-set : (name : List ℕ) (d : Option DiskState) (slots : List Slot) (s : Slot) (n : List ℕ) → place name slots < length slots → s ≡ slice_index_or slots (place name slots) s
-    → shelf_of (slice_set slots (place name slots) (filled s d)) n ≡ put name (content_of d) (shelf_of slots) n
-shelf_of-set name d [] s n lt is = absurd (omega (arith, lt))
-shelf_of-set name d (x ∷ more) s n lt is = step name d x more (place name more) s n (bytes_eq (name_of x) name) refl (shelf_of-set name d more s n) lt is
+pub shelf_of-set : (name : List ℕ) (d : Option DiskState) (slots : List Slot) (j : ℕ) (s : Slot) (n : List ℕ) → j ≡ place name slots → j < length slots → s ≡ slice_index_or slots j s
+    → shelf_of (slice_set slots j (filled s d)) n ≡ put name (content_of d) (shelf_of slots) n
+shelf_of-set name d [] j s n here lt is = absurd (omega (arith, lt))
+shelf_of-set name d (x ∷ more) zero s n here lt is =
+    let named : name_of x ≡ name = (bytes_decides (name_of x) name).0 (at_front (bytes_eq (name_of x) name) (place name more) here) in
+    let also_named : name_of s ≡ name = ap name_of is ∙ named in
+    ap (λ (l : List ℕ). if bytes_eq n l then content_of d else shelf_of more n) also_named
+    ∙ same_if (bytes_eq n name) (content_of d) (shelf_of more n) (content_of x.disk)
+    ∙ ap (λ (l : List ℕ). if bytes_eq n name then content_of d else (if bytes_eq n l then content_of x.disk else shelf_of more n)) (sym named)
+shelf_of-set name d (x ∷ more) (suc j) s n here lt is =
+    let later = behind (bytes_eq (name_of x) name) j (place name more) here in
+    ap (λ (u : Under MemLent). if bytes_eq n (name_of x) then content_of x.disk else u) (shelf_of-set name d more j s n later.1 (omega (arith, lt)) is)
+    ∙ swap_if (bytes_eq n (name_of x)) (bytes_eq n name) (content_of x.disk) (content_of d) (shelf_of more n) (apart n (name_of x) name later.0)
+
+-- the first slot with the name says what is under it
+pub shelf_of-at : (name : List ℕ) (slots : List Slot) (j : ℕ) (s : Slot) → j ≡ place name slots → j < length slots → s ≡ slice_index_or slots j s → shelf_of slots name ≡ content_of s.disk
+shelf_of-at name [] j s here lt is = absurd (omega (arith, lt))
+shelf_of-at name (x ∷ more) zero s here lt is =
+    let named : name_of x ≡ name = (bytes_decides (name_of x) name).0 (at_front (bytes_eq (name_of x) name) (place name more) here) in
+    ap (λ (b : Bool). if b then content_of x.disk else shelf_of more name) ((bytes_decides name (name_of x)).1 (sym named)) ∙ ap (λ (slot : Slot). content_of slot.disk) (sym is)
+shelf_of-at name (x ∷ more) (suc j) s here lt is =
+    let later = behind (bytes_eq (name_of x) name) j (place name more) here in
+    ap (λ (b : Bool). if b then content_of x.disk else shelf_of more name) (flipped name (name_of x) (bytes_eq name (name_of x)) refl later.0) ∙ shelf_of-at name more j s later.1 (omega (arith, lt)) is
 
 never_nothing : (disk : Option DiskState) → content_of disk ≡ Nothing → ⊥
 never_nothing None is = subst IsPublished is tt
@@ -69,20 +81,15 @@ shelf_of-push (x ∷ more) s n none =
     ∙ swap_if (bytes_eq n (name_of x)) (bytes_eq n (name_of s)) (content_of x.disk) (content_of s.disk) (shelf_of more n) (λ a b. apart n (name_of s) (name_of x) by.0 b a)
 
 -- without a slot there is nothing under a name
-nothing_step : (name : List ℕ) (x : Slot) (more : List Slot) (k : ℕ) (b : Bool) → bytes_eq (name_of x) name ≡ b → (length more ≤ k → shelf_of more name ≡ Nothing)
-    → length (x ∷ more) ≤ cond (not b) (1 + k) 0 → shelf_of (x ∷ more) name ≡ Nothing
-nothing_step name x more k true hit ih le = absurd (omega (arith, le))
-nothing_step name x more k false miss ih le =
-    let other : bytes_eq name (name_of x) ≡ false = flipped (bytes_eq name (name_of x)) refl in
-    ap (λ (b : Bool). if b then content_of x.disk else shelf_of more name) other ∙ ih (omega (arith, le))
-  where
-    flipped : (b : Bool) → bytes_eq name (name_of x) ≡ b → b ≡ false
-    flipped true is = absurd (true≢false (sym ((bytes_decides (name_of x) name).1 (sym ((bytes_decides name (name_of x)).0 is))) ∙ miss))
-    flipped false is = refl
+beyond : (b : Bool) (m n : ℕ) → 1 + m ≤ cond (not b) (1 + n) 0 → (b ≡ false) × (m ≤ n)
+beyond true m n le = absurd (omega (arith, le))
+beyond false m n le = (refl, omega (arith, le))
 
 pub shelf_of-none : (name : List ℕ) (slots : List Slot) → length slots ≤ place name slots → shelf_of slots name ≡ Nothing
 shelf_of-none name [] le = refl
-shelf_of-none name (x ∷ more) le = nothing_step name x more (place name more) (bytes_eq (name_of x) name) refl (shelf_of-none name more) le
+shelf_of-none name (x ∷ more) le =
+    let by = beyond (bytes_eq (name_of x) name) (length more) (place name more) (omega (arith, le)) in
+    ap (λ (b : Bool). if b then content_of x.disk else shelf_of more name) (flipped name (name_of x) (bytes_eq name (name_of x)) refl by.0) ∙ shelf_of-none name more by.1
 
 always_published : (disk : Option DiskState) → IsPublished (content_of disk)
 always_published None = tt
@@ -111,3 +118,44 @@ push-published (x ∷ more) s n is = by (bytes_eq n (name_of x)) is (push-publis
         → IsPublished (if b then content_of x.disk else shelf_of (more ++ s ∷ []) n)
     by true is ih = always_published x.disk
     by false is ih = ih is
+
+-- ---- what `slot_of` answers
+
+found_at : (b : Bool) (k at n : ℕ) → nat_lt k n ≡ b → ◌≡◌ {A = Option ℕ} (Some at) (cond b (Some k) None) → (at ≡ k) × (k < n)
+found_at true k at n is found = (ap (λ (o : Option ℕ). unwrap_or o 0) found, grind (arith, nat_tests))
+found_at false k at n is found = absurd (true≢false (ap (λ (o : Option ℕ). is_some o) found))
+
+pub found : (name : List ℕ) (slots lent : List Slot) (r : Option ℕ) (at : ℕ) → r ≡ Some at → r ≡ slot_of name lent → lent ≡ slots → (at ≡ place name slots) × (at < length slots)
+found name slots lent r at some is same =
+    let here = found_at (nat_lt (place name slots) (length slots)) (place name slots) at (length slots) refl (sym some ∙ is ∙ ap (slot_of name) same) in
+    (here.0, omega (arith, here))
+
+not_found_at : (b : Bool) (k n : ℕ) → nat_lt k n ≡ b → ◌≡◌ {A = Option ℕ} None (cond b (Some k) None) → n ≤ k
+not_found_at true k n is found = absurd (true≢false (sym (ap (λ (o : Option ℕ). is_some o) found)))
+not_found_at false k n is found = grind (arith, nat_tests)
+
+pub not_found : (name : List ℕ) (slots lent : List Slot) (r : Option ℕ) → r ≡ None → r ≡ slot_of name lent → lent ≡ slots → shelf_of slots name ≡ Nothing
+not_found name slots lent r none is same =
+    shelf_of-none name slots (not_found_at (nat_lt (place name slots) (length slots)) (place name slots) (length slots) refl (sym none ∙ is ∙ ap (slot_of name) same))
+
+-- the shelf after the found slot is filled anew
+pub put_found : (name : List ℕ) (d : Option DiskState) (slots lent : List Slot) (r : Option ℕ) (at : ℕ) (s : Slot) → r ≡ Some at → r ≡ slot_of name lent → lent ≡ slots → s ≡ slice_index_or slots at s
+    → shelf_of (slice_set slots at (filled s d)) ≡ put name (content_of d) (shelf_of slots)
+put_found name d slots lent r at s some is same here =
+    let by = found name slots lent r at some is same in
+    λ i n. shelf_of-set name d slots at s n by.0 by.1 here i
+
+pub stands_found : (name : List ℕ) (slots lent : List Slot) (r : Option ℕ) (at : ℕ) (s : Slot) → r ≡ Some at → r ≡ slot_of name lent → lent ≡ slots → s ≡ slice_index_or slots at s → shelf_of slots name ≡ content_of s.disk
+stands_found name slots lent r at s some is same here = let by = found name slots lent r at some is same in shelf_of-at name slots at s by.0 by.1 here
+
+encodes : (name : List ℕ) → IsUtf8 name → (t : List ℕ) → t ≡ chars name → encode_utf8_all t ≡ name
+encodes name utf8 t is = ap encode_utf8_all is ∙ sym (encodes-chars name utf8)
+
+-- the shelf after a slot with a new name is put behind the others
+pub push_found : (name t : List ℕ) (slots lent after : List Slot) (r : Option ℕ) → r ≡ None → r ≡ slot_of name lent → lent ≡ slots → IsUtf8 name → t ≡ chars name
+    → after ≡ slots ++ record { name = t; disk = None } ∷ [] → shelf_of after ≡ put name Lent (shelf_of slots)
+push_found name t slots lent after r none is same utf8 text after_is =
+    let s : Slot = record { name = t; disk = None } in
+    let named : name_of s ≡ name = encodes name utf8 t text in
+    let free : shelf_of slots (name_of s) ≡ Nothing = ap (shelf_of slots) named ∙ not_found name slots lent r none is same in
+    ap shelf_of after_is ∙ (λ i n. shelf_of-push slots s n free i) ∙ ap (λ (l : List ℕ). put {D = MemLent} l Lent (shelf_of slots)) named

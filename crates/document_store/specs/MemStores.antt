@@ -26,6 +26,10 @@ abbrev pub content_of : Option DiskState → Under MemLent
 content_of None = Lent
 content_of (Some disk) = Stands (unfailed disk)
 
+-- the slot with this in it
+abbrev pub filled : Slot → Option DiskState → Slot
+filled slot disk = record { name = slot.name; disk = disk }
+
 -- what is under each name, by slots of which the first with the name counts
 abbrev pub shelf_of : List Slot → Shelf MemLent
 shelf_of [] name = Nothing

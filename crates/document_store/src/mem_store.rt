@@ -2,7 +2,6 @@ ghost use Rattle.std.specs.Prelude.{◌≡◌, ◌⊎◌, ◌↔◌, ◌+◌, �
 ghost use Rattle.host_edge.specs.Causes.{HasCause};
 ghost use Rattle.std.specs.declared.option.Option.{Option};
 ghost use Rattle.host_edge.specs.MemDisks.{DiskState, image_of, read_of, image_since};
-ghost use Rattle.document_store.specs.declared.fault.StoreFault.TheVariants.{Failed};
 ghost use Rattle.std.proofs.Common.{refl};
 ghost use Rattle.document_store.specs.Causes.{TakesOver, Accounts};
 ghost use Rattle.document_store.specs.Disks.{SameBytes};
@@ -119,7 +118,7 @@ impl Store for MemStore {
         ensures ascending { IfOk result (λ names. AreAscending (map encode_utf8_all names)) }
         ensures same { ◌≡◌ {A = Option (Shelf MemLent)} (Some (shelf_of self.new.slots)) (Some (shelf_of self.old.slots)) }
         ensures cause { Accounts 0 self.old.faults self.new.faults result }
-        ensures listed { IsErrOf result Failed ↔ Contains self.old.fail self.old.calls }
+        ensures listed { IsErrOf result StoreFault.Failed ↔ Contains self.old.fail self.old.calls }
         ensures counted { self.new.calls ≡ min (self.old.calls + 1) (2 ^ 128 - 1) }
         ensures making { SameMaking self.old self.new }
     {
@@ -133,7 +132,7 @@ impl Store for MemStore {
         ensures refused { OnErr result (◌≡◌ {A = Option (Shelf MemLent)} (Some (shelf_of self.new.slots)) (Some (shelf_of self.old.slots))) }
         ensures unfailed { IfOk result (λ disk. disk.faults ≡ 0) }
         ensures cause { Accounts 0 self.old.faults self.new.faults result }
-        ensures listed { IsErrOf result Failed ↔ Contains self.old.fail self.old.calls }
+        ensures listed { IsErrOf result StoreFault.Failed ↔ Contains self.old.fail self.old.calls }
         ensures counted { self.new.calls ≡ min (self.old.calls + 1) (2 ^ 128 - 1) }
         ensures making { SameMaking self.old self.new }
     {
@@ -148,7 +147,7 @@ impl Store for MemStore {
         ensures same { ◌≡◌ {A = Option (Shelf MemLent)} (Some (shelf_of self.new.slots)) (Some (shelf_of self.old.slots)) }
         ensures cause { Accounts 0 self.old.faults self.new.faults result }
         ensures begun { IfOk result (λ disk. disk ≡ unfailed (new_disk self.old.room self.old.most)) }
-        ensures listed { IsErrOf result Failed ↔ Contains self.old.fail self.old.calls }
+        ensures listed { IsErrOf result StoreFault.Failed ↔ Contains self.old.fail self.old.calls }
         ensures counted { self.new.calls ≡ min (self.old.calls + 1) (2 ^ 128 - 1) }
         ensures making { SameMaking self.old self.new }
     {
@@ -173,7 +172,7 @@ impl Store for MemStore {
         ensures cause { Accounts disk.faults self.old.faults self.new.faults result }
         ensures on { IfOk result (λ on. on ≡ disk) }
         ensures stays { OnErr result (self.new.slots ≡ self.old.slots) }
-        ensures listed { IsErrOf result Failed ↔ Contains self.old.fail self.old.calls }
+        ensures listed { IsErrOf result StoreFault.Failed ↔ Contains self.old.fail self.old.calls }
         ensures counted { self.new.calls ≡ min (self.old.calls + 1) (2 ^ 128 - 1) }
         ensures making { SameMaking self.old self.new }
     {

@@ -1,8 +1,8 @@
 // The slots of a store in memory, of which the first with a name counts.
-ghost use Rattle.std.specs.Prelude.{◌≡◌, ◌⊎◌, ◌<◌, List, ℕ, map, length, IfOk, OnOk, OnErr, encode_utf8_all};
+ghost use Rattle.std.specs.Prelude.{◌≡◌, ◌⊎◌, ◌<◌, List, ℕ, map, length, IfOk, OnOk, OnErr, Some, None, encode_utf8_all};
 ghost use Rattle.document_store.specs.Names.{AreAscending};
 ghost use Rattle.document_store.specs.Shelves.{Stands, Lent, put, IsPublished, IsStanding, IsLent, ArePublished};
-ghost use Rattle.document_store.specs.MemStores.{content_of, shelf_of, slot_of, unfailed};
+ghost use Rattle.document_store.specs.MemStores.{content_of, filled, shelf_of, slot_of, unfailed};
 
 use crate::name_list::add_name;
 use crate::slot::Slot;
@@ -26,10 +26,18 @@ pub(crate) fn take_from(slots: &mut Vec<Slot>, name: &str) -> MemDisk
     let Some(at) = slot_of(slots, name) else {
         unreachable!();
     };
-    let Some(disk) = slots[at].disk.take() else {
-        unreachable!();
-    };
-    disk
+    take_disk(&mut slots[at])
+}
+
+fn take_disk(slot: &mut Slot) -> MemDisk
+    requires { IsStanding (content_of slot.old.disk) }
+    ensures disk { slot.old.disk ≡ Some result }
+    ensures lent { slot.new ≡ filled slot.old None }
+{
+    match slot.disk.take() {
+        Some(disk) => disk,
+        None => unreachable!(),
+    }
 }
 
 // Puts a disk under the lent name.
