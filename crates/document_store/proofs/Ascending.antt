@@ -143,6 +143,12 @@ is_there [] k lt = absurd (omega (arith, lt))
 is_there (y ∷ ys) zero lt = Contains-append_left (key y ∷ []) (map key ys) (key y) (alone (key y) (key y) refl)
 is_there (y ∷ ys) (suc k) lt = Contains-append_right (key y ∷ []) (map key ys) (key (slice_index_or ys k [])) (is_there ys k (omega (arith, lt)))
 
+-- a name that wasn't found at its place isn't there
+pub absent : (b : Bool) (names lent : List (List ℕ)) (k : ℕ) (x bytes : List ℕ) → b ≡ false → lent ≡ names → bytes ≡ key x
+    → ((k < length lent) × (key (slice_index_or lent k []) ≡ bytes) → b ≡ true) → (k < length names) × (key (slice_index_or names k []) ≡ key x) → ⊥
+absent b names lent k x bytes missed same is says at =
+    true≢false (sym (says (subst (λ (l : List (List ℕ)). k < length l) (sym same) at.0, ap (λ (l : List (List ℕ)). key (slice_index_or l k [])) same ∙ at.1 ∙ sym is)) ∙ missed)
+
 place_end : (b : Bool) (k n : ℕ) → nat_lt k n ≡ b → k ≤ n → ◌≡◌ {A = Option ℕ} None (cond b (Some k) None) → n ≡ k
 place_end true k n is le none = absurd (true≢false (sym (ap (λ (o : Option ℕ). is_some o) none)))
 place_end false k n is le none = grind (arith, nat_tests)

@@ -1,5 +1,5 @@
 -- What is under a name, by slots.
-use Rattle.std.proofs.Common.{◌≡◌, ◌⊎◌, inl, inr, ◌∙◌, refl, sym, ap, subst, arith, ℕ, zero, suc, ◌+◌, ◌<◌, ◌≤◌, List, [], ◌∷◌, ◌++◌, length, Bool, true, false, not, cond, if◌then◌else◌, true≢false, Option, Some, None, slice_index_or, slice_set, bytes_eq, nat_lt, is_some}
+use Rattle.std.proofs.Common.{◌≡◌, ◌⊎◌, inl, inr, ⊎_elim, ◌↔◌, ◌∙◌, refl, sym, ap, subst, arith, ℕ, zero, suc, ◌+◌, ◌<◌, ◌≤◌, List, [], ◌∷◌, ◌++◌, length, Bool, true, false, not, cond, if◌then◌else◌, true≢false, Option, Some, None, slice_index_or, slice_set, map, take, Contains, bytes_eq, nat_lt, is_some}
 use Rattle.std.proofs.lemmas.Bool.Decides.{nat_tests}
 use Rattle.std.specs.Option.{unwrap_or}
 use Rattle.std.specs.List.{position_or_len}
@@ -7,7 +7,7 @@ use Rattle.std.specs.Cmp.Lexicographic.{bytes_decides}
 use Rattle.std.specs.Str.{IsUtf8, chars, encode_utf8_all}
 use Rattle.compact_values.proofs.Texts.{encodes-chars}
 use Rattle.host_edge.specs.MemDisks.{DiskState}
-use Rattle.document_store.specs.Shelves.{Under, Nothing, Stands, Lent, put, IsPublished}
+use Rattle.document_store.specs.Shelves.{Under, Nothing, Stands, Lent, Shelf, put, IsPublished, ArePublished}
 use Rattle.document_store.specs.MemStores.{MemLent, name_of, content_of, shelf_of, slot_of, filled}
 use Rattle.document_store.specs.declared.slot.Slot.{Slot}
 
@@ -159,3 +159,40 @@ push_found name t slots lent after r none is same utf8 text after_is =
     let named : name_of s ≡ name = encodes name utf8 t text in
     let free : shelf_of slots (name_of s) ≡ Nothing = ap (shelf_of slots) named ∙ not_found name slots lent r none is same in
     ap shelf_of after_is ∙ (λ i n. shelf_of-push slots s n free i) ∙ ap (λ (l : List ℕ). put {D = MemLent} l Lent (shelf_of slots)) named
+
+-- what a crash inside a publish leaves
+pub left_inside : (name : List ℕ) (before after : Shelf MemLent) → after ≡ put name Lent before → (other : List ℕ) (u : Under MemLent) → (u ≡ before other) ⊎ (u ≡ after other)
+    → (u ≡ before other) ⊎ ((other ≡ name) × (u ≡ Lent))
+left_inside name before after is other u (inl old) = inl old
+left_inside name before after is other u (inr new) = by (bytes_eq other name) refl (new ∙ ap (λ (shelf : Shelf MemLent). shelf other) is)
+  where
+    by : (b : Bool) → bytes_eq other name ≡ b → u ≡ (if b then Lent else before other) → (u ≡ before other) ⊎ ((other ≡ name) × (u ≡ Lent))
+    by true hit is_lent = inr ((bytes_decides other name).0 hit, is_lent)
+    by false miss is_old = inl is_old
+
+-- ---- the names of slots, one after the other
+
+pub none_listed : (names : List (List ℕ)) → names ≡ [] → ArePublished {D = MemLent} (shelf_of []) (map encode_utf8_all names)
+none_listed names is = record { each = λ n there. absurd (nowhere names n is there); all = λ n published. absurd published }
+  where
+    nowhere : (names : List (List ℕ)) (n : List ℕ) → names ≡ [] → Contains (map encode_utf8_all names) n → ⊥
+    nowhere names n is there = empty (subst (λ (l : List (List ℕ)). Contains (map encode_utf8_all l) n) is there)
+      where
+        empty : Contains {X = List ℕ} [] n → ⊥
+        empty there = omega (arith, there.1)
+
+take_one : (slots : List Slot) (i : ℕ) (s : Slot) → i < length slots → s ≡ slice_index_or slots i s → take (suc i) slots ≡ take i slots ++ s ∷ []
+take_one [] i s lt is = absurd (omega (arith, lt))
+take_one (x ∷ more) zero s lt is = ap (λ (y : Slot). y ∷ []) (sym is)
+take_one (x ∷ more) (suc i) s lt is = ap (λ (l : List Slot). x ∷ l) (take_one more i s (omega (arith, lt)) is)
+
+pub listed_more : (slots : List Slot) (i : ℕ) (s : Slot) (names after : List (List ℕ)) (text : List ℕ) → i < length slots → s ≡ slice_index_or slots i s → text ≡ s.name
+    → ArePublished (shelf_of (take i slots)) (map encode_utf8_all names)
+    → ((other : List ℕ) → (Contains (map encode_utf8_all after) other) ↔ (Contains (map encode_utf8_all names) other ⊎ (encode_utf8_all text ≡ other)))
+    → ArePublished (shelf_of (take (i + 1) slots)) (map encode_utf8_all after)
+listed_more slots i s names after text lt is text_is so added =
+    let next : i + 1 ≡ suc i = omega arith in
+    subst (λ (l : List Slot). ArePublished (shelf_of l) (map encode_utf8_all after)) (sym (ap (λ (n : ℕ). take n slots) next ∙ take_one slots i s lt is)) (record {
+      each = λ n there. push-published (take i slots) s n (⊎_elim (λ a. inl (so.each n a)) (λ e. inr (ap encode_utf8_all (sym text_is) ∙ e)) ((added n).0 there));
+      all = λ n published. (added n).1 (⊎_elim (λ a. inl (so.all n a)) (λ e. inr (ap encode_utf8_all text_is ∙ e)) (published-push (take i slots) s n published));
+    })

@@ -1,5 +1,6 @@
 // The store over a folder.
 ghost use Rattle.std.specs.Prelude.{◌≡◌, None, Some};
+ghost use Rattle.std.proofs.Common.{refl};
 ghost use Rattle.document_store.specs.Causes.{ShowsIn, TakesOver};
 
 use crate::fault::StoreFault;
@@ -94,7 +95,7 @@ impl Store for FolderStore {
 
     ghost faults = { λ s. s.faults };
 
-    ghost same_disk = { λ l. untold_bytes l.disk l.place l.faults 0 };
+    ghost same_disk = { λ l. record { reads = refl; images = λ c. (λ left. left, λ left. left); time = refl; since = λ t c. (λ left. left, λ left. left) } };
 
     ghost has_not_failed = { λ l. refl };
 

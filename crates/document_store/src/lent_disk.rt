@@ -7,9 +7,9 @@ use host_edge::{Disk, Failed};
 /// A disk that a store lends, with where the store has it. It counts its faults from when it was lent.
 #[derive(Drop)]
 pub struct LentDisk<D, P> {
-    disk: D,
-    place: P,
-    faults: u64,
+    pub(crate) disk: D,
+    pub(crate) place: P,
+    pub(crate) faults: u64,
 }
 
 impl<D, P> LentDisk<D, P> {

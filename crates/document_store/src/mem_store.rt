@@ -168,7 +168,7 @@ impl Store for MemStore {
         ensures refused { OnErr result ((◌≡◌ {A = Option (Shelf MemLent)} (Some (shelf_of self.new.slots)) (Some (shelf_of self.old.slots)))
             ⊎ (◌≡◌ {A = Option (Shelf MemLent)} (Some (shelf_of self.new.slots)) (Some (put name.now (Stands (unfailed disk.disk)) (shelf_of self.old.slots))))) }
         ensures crash { (other : List ℕ) (u : Under MemLent) → (u ≡ shelf_of self.old.slots other) ⊎ (u ≡ shelf_of self.new.slots other)
-            → (u ≡ shelf_of self.old.slots other) ⊎ ((other ≡ name.now) × (u ≡ Stands (unfailed disk.disk))) }
+            → (u ≡ shelf_of self.old.slots other) ⊎ ((other ≡ name.now) × (u ≡ Lent)) }
         ensures cause { Accounts disk.faults self.old.faults self.new.faults result }
         ensures on { IfOk result (λ on. on ≡ disk) }
         ensures stays { OnErr result (self.new.slots ≡ self.old.slots) }

@@ -63,9 +63,9 @@ pub trait Store {
         ensures refused { OnErr result ((shelf self.new ≡ shelf self.old)
             ⊎ (shelf self.new ≡ option_map (put name.now (Stands (anew disk))) (shelf self.old))) }
 
-        // A crash inside leaves each name as it was, or this name with the new disk.
+        // A crash inside leaves each name as it was, or this name with the disk that is lent on.
         ensures crash { (other : List ℕ) (u : Under Self.Disk) → left_inside self.old self.new other u
-            → IfSome (shelf self.old) (λ under. (u ≡ under other) ⊎ ((other ≡ name.now) × (u ≡ Stands (anew disk)))) }
+            → IfSome (shelf self.old) (λ under. (u ≡ under other) ⊎ ((other ≡ name.now) × (u ≡ Lent))) }
 
         ensures cause { Accounts (Self.Disk.faults disk) (faults self.old) (faults self.new) result };
 

@@ -1,6 +1,7 @@
-use Rattle.std.proofs.Common.{subst, sym, ap, ◌∙◌, None}
+use Rattle.std.proofs.Common.{subst, ap, ◌∙◌, slice_set, None}
 use Rattle.document_store.specs.Shelves.{IsStanding}
-use Rattle.document_store.specs.MemStores.{content_of}
+use Rattle.document_store.specs.MemStores.{content_of, shelf_of}
+use Rattle.document_store.specs.declared.slot.Slot.{Slot}
 use Rattle.document_store.proofs.Filling.{not_found, put_found, stands_found}
 use Rattle.document_store.proofs.slots.take_from.Goals as goal
 
@@ -17,4 +18,6 @@ returns-clause-stood c =
     ∙ ap content_of c.take_disk.ensures.disk
 
 pub returns-clause-lent : goal.returns-clause-lent
-returns-clause-lent c = ?
+returns-clause-lent c =
+    ap (λ (s : Slot). shelf_of (slice_set c.args.slots.now.items c.in-Some.at s)) c.take_disk.ensures.lent
+    ∙ put_found c.args.name.now None c.args.slots.now.items c.deref.result.now c.slot_of.result c.in-Some.at c.index_mut.result.now c.in-Some.is c.slot_of.ensures c.deref.ensures.value c.index_mut.ensures.value

@@ -1,0 +1,18 @@
+use Rattle.std.proofs.Common.{List, ℕ, map, subst, sym, encode_utf8_all}
+use Rattle.document_store.specs.Names.{AreAscending}
+use Rattle.document_store.proofs.Ascending.{none_ascend}
+use Rattle.document_store.proofs.Filling.{none_listed, listed_more}
+use Rattle.document_store.proofs.slots.names_of.Goals as goal
+
+pub loop-slot-init : goal.loop-slot-init
+loop-slot-init c = record {
+  ascending = subst (λ (l : List (List ℕ)). AreAscending (map encode_utf8_all l)) (sym c.new-names.ensures.items) none_ascend;
+  all = none_listed c.new-names.result.items c.new-names.ensures.items;
+}
+
+pub loop-slot-preserved : goal.loop-slot-preserved
+loop-slot-preserved c = record {
+  ascending = c.in_ok-add_name.ensures.ascending;
+  all = listed_more c.args.slots.now c.loop-slot.slot-index c.slot-item.result c.loop-slot.names.items c.add_name.new.names.items c.in_ok-copied.field-0 c.loop-slot-test.true c.slot-item.is c.in_ok-copied.ensures
+    c.loop-slot.invariant.all c.in_ok-add_name.ensures.added;
+}
