@@ -6,7 +6,7 @@ ghost use Rattle.document_store.specs.Names.{AreAscending};
 use crate::folder_fault::FolderFault;
 use crate::lent_disk::LentDisk;
 use crate::name::is_name;
-use crate::name_list::add_name;
+use crate::name_list::{add_name, no_names};
 use compact_values::Text;
 use host_edge::{Disk, FileDisk};
 use std::alloc::Global;
@@ -65,7 +65,7 @@ impl Folder {
         ensures { IfOk result (λ names. AreAscending (map encode_utf8_all names.items)) }
     {
         self.enter()?;
-        let mut names = Vec::new(alloc);
+        let mut names = no_names(alloc);
         for entry in fs::read_dir(&self.rt, self.path)? {
             if let Some(name) = document_name(alloc, entry)? {
                 add_name(&mut names, name)?;

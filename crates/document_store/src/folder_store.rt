@@ -1,5 +1,5 @@
 // The store over a folder.
-ghost use Rattle.std.specs.Prelude.{◌≡◌, None, Some};
+ghost use Rattle.std.specs.Prelude.{◌≡◌, ◌≤◌, None, Some};
 ghost use Rattle.std.proofs.Common.{refl};
 ghost use Rattle.document_store.specs.Causes.{ShowsIn, TakesOver};
 
@@ -68,7 +68,8 @@ impl FolderStore {
 
     // Counts a failure, and keeps why it was one. A disk with so many faults was in hand.
     fn refuse(&mut self, faults: u64, fault: FolderFault) -> StoreFault
-        ensures { ShowsIn faults self.old.faults self.new.faults result }
+        ensures later { self.old.faults ≤ self.new.faults }
+        ensures why { ShowsIn faults self.old.faults self.new.faults result }
     {
         self.fault = Some(fault);
         match fault {

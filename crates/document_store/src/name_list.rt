@@ -3,6 +3,16 @@ ghost use Rattle.std.specs.Prelude.{◌≡◌, ◌⊎◌, ◌↔◌, ◌<◌, Li
 ghost use Rattle.document_store.specs.Names.{AreAscending, place_of, first_from};
 
 use compact_values::{NoMemory, Text};
+use std::alloc::Global;
+
+// A list without names.
+pub(crate) fn no_names(alloc: Global) -> Vec<Text>
+    ensures none { result.items ≡ [] }
+    ensures ascending { AreAscending (map encode_utf8_all result.items) }
+{
+    let names = Vec::new(alloc);
+    names
+}
 
 // Adds the name at its place among names that ascend, unless it is there.
 pub(crate) fn add_name(names: &mut Vec<Text>, name: Text) -> Result<(), NoMemory>

@@ -4,7 +4,7 @@ ghost use Rattle.document_store.specs.Names.{AreAscending};
 ghost use Rattle.document_store.specs.Shelves.{Stands, Lent, put, IsPublished, IsStanding, IsLent, ArePublished};
 ghost use Rattle.document_store.specs.MemStores.{content_of, filled, shelf_of, slot_of, unfailed};
 
-use crate::name_list::add_name;
+use crate::name_list::{add_name, no_names};
 use crate::slot::Slot;
 use compact_values::{Copied, Names, NoMemory, Seq, Text};
 use host_edge::MemDisk;
@@ -70,7 +70,7 @@ pub(crate) fn names_of(alloc: Global, slots: &[Slot]) -> Result<Names, NoMemory>
     ensures all { IfOk result (λ names. ArePublished (shelf_of slots.now) (map encode_utf8_all names)) }
     ensures ascending { IfOk result (λ names. AreAscending (map encode_utf8_all names)) }
 {
-    let mut names = Vec::new(alloc);
+    let mut names = no_names(alloc);
     for slot in slots {
         add_name(&mut names, slot.name.copied(alloc)?)?;
     }

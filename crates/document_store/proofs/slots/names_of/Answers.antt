@@ -1,13 +1,10 @@
-use Rattle.std.proofs.Common.{List, ℕ, map, subst, sym, encode_utf8_all}
-use Rattle.document_store.specs.Names.{AreAscending}
-use Rattle.document_store.proofs.Ascending.{none_ascend}
 use Rattle.document_store.proofs.Filling.{none_listed, listed_more}
 use Rattle.document_store.proofs.slots.names_of.Goals as goal
 
 pub loop-slot-init : goal.loop-slot-init
 loop-slot-init c = record {
-  ascending = subst (λ (l : List (List ℕ)). AreAscending (map encode_utf8_all l)) (sym c.new-names.ensures.items) none_ascend;
-  all = none_listed c.new-names.result.items c.new-names.ensures.items;
+  ascending = c.no_names-names.ensures.ascending;
+  all = none_listed c.no_names-names.result.items c.no_names-names.ensures.none;
 }
 
 pub loop-slot-preserved : goal.loop-slot-preserved
