@@ -108,8 +108,8 @@ contained x [] (suc k) other there = inr (single (key x) other there)
 contained x (y ∷ ys) zero other there = ⊎_elim (λ a. inr (single (key x) other a)) (λ b. inl b) (Contains-append_cases (key x ∷ []) (map key (y ∷ ys)) other there)
 contained x (y ∷ ys) (suc k) other there =
     ⊎_elim (λ a. inl (Contains-append_left (key y ∷ []) (map key ys) other a))
-      (λ b. ⊎_elim (λ c. inl (Contains-append_right (key y ∷ []) (map key ys) other c)) (λ e. inr e) (contained x ys k other b))
-      (Contains-append_cases (key y ∷ []) (map key (insert ys k x)) other there)
+    (λ b. ⊎_elim (λ c. inl (Contains-append_right (key y ∷ []) (map key ys) other c)) (λ e. inr e) (contained x ys k other b))
+    (Contains-append_cases (key y ∷ []) (map key (insert ys k x)) other there)
 
 containing : (x : List ℕ) (xs : List (List ℕ)) (k : ℕ) (other : List ℕ) → Contains (map key xs) other ⊎ (key x ≡ other) → Contains (map key (insert xs k x)) other
 containing x [] zero other (inl there) = absurd (omega (arith, there.1))
@@ -120,8 +120,8 @@ containing x (y ∷ ys) zero other (inl there) = Contains-append_right (key x �
 containing x (y ∷ ys) zero other (inr e) = Contains-append_left (key x ∷ []) (map key (y ∷ ys)) other (alone (key x) other e)
 containing x (y ∷ ys) (suc k) other (inl there) =
     ⊎_elim (λ a. Contains-append_left (key y ∷ []) (map key (insert ys k x)) other a)
-      (λ b. Contains-append_right (key y ∷ []) (map key (insert ys k x)) other (containing x ys k other (inl b)))
-      (Contains-append_cases (key y ∷ []) (map key ys) other there)
+    (λ b. Contains-append_right (key y ∷ []) (map key (insert ys k x)) other (containing x ys k other (inl b)))
+    (Contains-append_cases (key y ∷ []) (map key ys) other there)
 containing x (y ∷ ys) (suc k) other (inr e) = Contains-append_right (key y ∷ []) (map key (insert ys k x)) other (containing x ys k other (inr e))
 
 -- ---- as `add_name` uses it
@@ -130,7 +130,7 @@ pub added_ascends : (names lent after : List (List ℕ)) (k : ℕ) (x bytes : Li
     → ((k < length names) × (key (slice_index_or names k []) ≡ key x) → ⊥) → Sorted (map key names) → Sorted (map key after)
 added_ascends names lent after k x bytes same here is put apart sorted =
     subst (λ (l : List (List ℕ)). Sorted (map key l)) (sym put)
-      (ascending-insert x names k (here ∙ ap (λ (l : List (List ℕ)). place_of bytes l) same ∙ ap (λ (b : List ℕ). place_of b names) is) sorted apart)
+    (ascending-insert x names k (here ∙ ap (λ (l : List (List ℕ)). place_of bytes l) same ∙ ap (λ (b : List ℕ). place_of b names) is) sorted apart)
 
 pub added_contains : (names after : List (List ℕ)) (k : ℕ) (x : List ℕ) → after ≡ insert names k x
     → (other : List ℕ) → (Contains (map key after) other) ↔ (Contains (map key names) other ⊎ (key x ≡ other))

@@ -10,10 +10,9 @@ use crate::name_list::{add_name, no_names};
 use compact_values::Text;
 use host_edge::{Disk, FileDisk};
 use std::alloc::Global;
-use std::fs;
 use std::fs::{DirEntry, File, OpenOptions, TryLockError};
-use std::io;
 use std::io::ErrorKind;
+use std::{fs, io};
 
 const ENDING: &str = ".cells";
 
@@ -108,7 +107,12 @@ impl Folder {
     }
 
     // Syncs the file of a disk without a name, and gives it the name. The file that had it is gone.
-    fn name_file(&mut self, file: &mut FileDisk, path: &str, name: &str) -> Result<(), FolderFault> {
+    fn name_file(
+        &mut self,
+        file: &mut FileDisk,
+        path: &str,
+        name: &str,
+    ) -> Result<(), FolderFault> {
         self.enter()?;
         let named = self.path_of(name)?;
         if file.sync().is_err() {
@@ -120,7 +124,11 @@ impl Folder {
 
     /// Gives a disk without a name this name, and syncs the folder. Where it is refused before the folder is synced, the
     /// disk's file is gone.
-    pub(crate) fn publish(&mut self, name: &str, disk: FolderDisk) -> Result<FolderDisk, FolderFault>
+    pub(crate) fn publish(
+        &mut self,
+        name: &str,
+        disk: FolderDisk,
+    ) -> Result<FolderDisk, FolderFault>
         ensures { IfOk result (λ on. on.faults ≡ disk.faults) }
     {
         let LentDisk {

@@ -9,8 +9,7 @@ use std::test::Fail;
 // Whether these are the names, in this order.
 fn are(names: &Names, expected: &[&str]) -> bool {
     let names = names.as_slice();
-    names.len() == expected.len()
-        && (0..names.len()).all(|i| names[i].as_str() == expected[i])
+    names.len() == expected.len() && (0..names.len()).all(|i| names[i].as_str() == expected[i])
 }
 
 // Puts a new disk with these bytes under the name.

@@ -11,8 +11,8 @@ ghost use Rattle.document_store.specs.MemStores.{MemLent, StoreState, SameMaking
 
 use crate::fault::StoreFault;
 use crate::lent_disk::LentDisk;
-use crate::slots::{lend_under, names_of, put_back, take_from};
 use crate::slot::Slot;
+use crate::slots::{lend_under, names_of, put_back, take_from};
 use crate::store::Store;
 use compact_values::{Names, NoMemory};
 use host_edge::{Failed, MemDisk};

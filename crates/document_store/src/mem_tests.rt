@@ -8,8 +8,7 @@ use std::test::Fail;
 // Whether these are the names, in this order.
 fn are(names: &Names, expected: &[&str]) -> bool {
     let names = names.as_slice();
-    names.len() == expected.len()
-        && (0..names.len()).all(|i| names[i].as_str() == expected[i])
+    names.len() == expected.len() && (0..names.len()).all(|i| names[i].as_str() == expected[i])
 }
 
 // Puts a new disk with these bytes under the name.
@@ -34,6 +33,11 @@ fn begins_with<D: Disk>(disk: &mut D, bytes: &[u8]) -> bool {
     disk.read_at(0, &mut into) == Ok(2) && into.as_slice() == bytes
 }
 
+// A lent disk goes to other threads.
+fn can_be_sent<T: Send>(_value: &T) -> bool {
+    true
+}
+
 #[test]
 fn names_come_in_order_of_their_bytes(rt: HostRuntime) -> Result<(), Fail> {
     let alloc = rt.alloc();
@@ -42,7 +46,8 @@ fn names_come_in_order_of_their_bytes(rt: HostRuntime) -> Result<(), Fail> {
     assert!(rt; add(alloc, &mut store, "é", b"ee"));
     assert!(rt; add(alloc, &mut store, "B", b"BB"));
     assert!(rt; add(alloc, &mut store, "ab", b"ab"));
-    let _lent = store.fetch("b")?;
+    let lent = store.fetch("b")?;
+    assert!(rt; can_be_sent(&lent));
     assert!(rt; are(&store.names(alloc)?, &["B", "ab", "b", "é"]));
     Ok(())
 }

@@ -9,4 +9,4 @@ pub returns-in-Ok-clause-crash : goal.returns-in-Ok-clause-crash
 returns-in-Ok-clause-crash c =
     left_inside c.args.name.now (shelf_of c.args.self.now.slots) (shelf_of c.lend_under.new.slots.items)
     (c.in-Ok.ensures.lent
-      ∙ ap (λ (l : List Slot). put {D = MemLent} c.args.name.now Lent (shelf_of l)) (ap (λ (s : StoreState). s.slots) c.self.view_is ∙ c.in_ok-count_call.ensures.same.1))
+    ∙ ap (λ (l : List Slot). put {D = MemLent} c.args.name.now Lent (shelf_of l)) (ap (λ (s : StoreState). s.slots) c.self.view_is ∙ c.in_ok-count_call.ensures.same.1))
