@@ -1,37 +1,9 @@
-// The store in memory.
-use crate::{MemStore, Store, StoreFault, is_name};
-use compact_values::Names;
-use host_edge::Disk;
-use std::alloc::Global;
+// The store in memory, and the disks that it lends. What it does with names its contract tells whole; the tests over a
+// folder go through it.
+use crate::lent_disk::LentDisk;
+use crate::{MemStore, Store, is_name};
+use host_edge::{Disk, MemDisk};
 use std::test::Fail;
-
-// Whether these are the names, in this order.
-fn are(names: &Names, expected: &[&str]) -> bool {
-    let names = names.as_slice();
-    names.len() == expected.len() && (0..names.len()).all(|i| names[i].as_str() == expected[i])
-}
-
-// Puts a new disk with these bytes under the name.
-fn add<S: Store>(alloc: Global, store: &mut S, name: &str, bytes: &[u8]) -> bool {
-    let Ok(mut disk) = store.begin(alloc) else {
-        return false;
-    };
-    if disk.write_at(0, bytes).is_err() {
-        return false;
-    }
-    match store.publish(name, disk) {
-        Ok(disk) => {
-            store.give_back(name, disk);
-            true
-        }
-        Err(_) => false,
-    }
-}
-
-fn begins_with<D: Disk>(disk: &mut D, bytes: &[u8]) -> bool {
-    let mut into = [0u8; 2];
-    disk.read_at(0, &mut into) == Ok(2) && into.as_slice() == bytes
-}
 
 // A lent disk goes to other threads.
 fn can_be_sent<T: Send>(_value: &T) -> bool {
@@ -39,64 +11,31 @@ fn can_be_sent<T: Send>(_value: &T) -> bool {
 }
 
 #[test]
-fn names_come_in_order_of_their_bytes(rt: HostRuntime) -> Result<(), Fail> {
-    let alloc = rt.alloc();
-    let mut store = MemStore::new(alloc, 8, 8, &[])?;
-    assert!(rt; add(alloc, &mut store, "b", b"bb"));
-    assert!(rt; add(alloc, &mut store, "é", b"ee"));
-    assert!(rt; add(alloc, &mut store, "B", b"BB"));
-    assert!(rt; add(alloc, &mut store, "ab", b"ab"));
-    let lent = store.fetch("b")?;
+fn a_lent_disk_counts_from_when_it_is_lent(rt: HostRuntime) -> Result<(), Fail> {
+    let mut lent = LentDisk::new(MemDisk::new(rt.alloc(), 8, 8, &[0, 2])?, ());
     assert!(rt; can_be_sent(&lent));
-    assert!(rt; are(&store.names(alloc)?, &["B", "ab", "b", "é"]));
-    Ok(())
-}
-
-#[test]
-fn a_disk_comes_back_with_a_count_that_begins_anew(rt: HostRuntime) -> Result<(), Fail> {
-    let alloc = rt.alloc();
-    let mut store = MemStore::new(alloc, 8, 2, &[])?;
-    assert!(rt; add(alloc, &mut store, "a", b"aa"));
-    let mut disk = store.fetch("a")?;
-    assert!(rt; begins_with(&mut disk, b"aa"));
-    assert!(rt; disk.length().is_err());
-    assert_eq!(rt; disk.failures(), 1);
-    assert_eq!(rt; store.failures(), 0);
-    store.give_back("a", disk);
-    assert_eq!(rt; store.failures(), 1);
-    let disk = store.fetch("a")?;
-    assert_eq!(rt; disk.failures(), 0);
-    store.give_back("a", disk);
-    assert_eq!(rt; store.failures(), 1);
-    Ok(())
-}
-
-#[test]
-fn a_new_disk_takes_the_place_of_an_old_one(rt: HostRuntime) -> Result<(), Fail> {
-    let alloc = rt.alloc();
-    let mut store = MemStore::new(alloc, 8, 8, &[])?;
-    assert!(rt; add(alloc, &mut store, "a", b"aa"));
-    assert!(rt; add(alloc, &mut store, "b", b"bb"));
-    assert!(rt; add(alloc, &mut store, "a", b"cc"));
-    assert!(rt; begins_with(&mut store.fetch("a")?, b"cc"));
-    assert!(rt; begins_with(&mut store.fetch("b")?, b"bb"));
-    let unnamed = store.begin(alloc)?;
-    store.discard(unnamed);
-    assert!(rt; are(&store.names(alloc)?, &["a", "b"]));
+    assert!(rt; lent.length().is_err());
+    assert!(rt; lent.sync().is_ok());
+    assert_eq!(rt; lent.failures(), 1);
+    let mut again = LentDisk::new(lent.into_disk(), ());
+    assert_eq!(rt; again.failures(), 0);
+    assert!(rt; again.sync().is_err());
+    assert_eq!(rt; again.failures(), 1);
+    assert_eq!(rt; again.disk().failures(), 2);
     Ok(())
 }
 
 #[test]
 fn a_store_fails_at_the_listed_calls(rt: HostRuntime) -> Result<(), Fail> {
     let alloc = rt.alloc();
-    let mut store = MemStore::new(alloc, 8, 8, &[0, 2, 5])?;
+    let mut store = MemStore::new(alloc, 8, 8, &[0, 2])?;
     assert!(rt; store.begin(alloc).is_err());
-    assert!(rt; !add(alloc, &mut store, "a", b"aa"));
+    let mut disk = store.begin(alloc)?;
+    assert!(rt; disk.write_at(0, b"a").is_ok());
+    assert!(rt; store.names(alloc).is_err());
+    store.discard(disk);
+    assert!(rt; store.names(alloc)?.is_empty());
     assert_eq!(rt; store.failures(), 2);
-    assert!(rt; add(alloc, &mut store, "b", b"bb"));
-    assert!(rt; matches!(store.fetch("b"), Err(StoreFault::Failed)));
-    assert!(rt; are(&store.names(alloc)?, &["b"]));
-    assert_eq!(rt; store.failures(), 3);
     Ok(())
 }
 
