@@ -1,5 +1,5 @@
 -- A word that is empty or an option is in no form.
-use Rattle.std.proofs.Common.{◌≡◌, ◌∙◌, ◌==◌, ◌&&◌, ℕ, Bool, true, false, not, List, [], ◌∷◌, length, None, Some, refl, ap, codes, inl, inr, Bor, true≢false, eqb-true, sym, cond}
+use Rattle.std.proofs.Common.{◌≡◌, ◌∙◌, ◌==◌, ◌&&◌, ℕ, Bool, true, false, not, List, [], ◌∷◌, length, None, Some, refl, ap, codes, inl, inr, Bor, true≢false, eqb-true, sym, subst, cond}
 use Rattle.std.specs.Prelude.{slice_index}
 use Rattle.std.specs.declared.option.Option.{Option}
 use Rattle.std.specs.Option.{option_map}
@@ -67,8 +67,9 @@ pub record IsNoForm (word : List ℕ) : Type 0 where
 no_form : (word : List ℕ) → is_plain word ≡ false → IsNoForm word
 no_form [] e = record { replay = refl; answer = refl; guid = refl }
 no_form (first ∷ rest) e =
+    let hyphen : IsNoForm (45 ∷ rest) = record { replay = refl; answer = refl; guid = option_guid rest } in
     elim (cases_Bool (first == 45)) [
-      | inl y ↦ rw eqb-true first 45 y (record { replay = refl; answer = refl; guid = option_guid rest })
+      | inl y ↦ subst (λ c. IsNoForm (c ∷ rest)) (sym (eqb-true first 45 y)) hyphen
       | inr n ↦ absurd (true≢false (sym (ap not n) ∙ e))
     ]
 
