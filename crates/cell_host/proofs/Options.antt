@@ -25,7 +25,6 @@ and_no : (b c : Bool) (o : Option (List ℕ)) → c ≡ false → No (cond (b &&
 and_no true c o h = ap (λ d. cond d o None) h
 and_no false c o h = refl
 
-
 option_digits : (rest : List ℕ) → No (parsed_simple (digits_of (45 ∷ rest)))
 unfolding by_index
 option_digits rest = refl
@@ -62,7 +61,6 @@ pub record IsNoForm (word : List ℕ) : Type 0 where
   pub replay : bytes_eq word (codes "replay") ≡ false
   pub answer : bytes_eq word (codes "answer") ≡ false
   pub guid : ◌≡◌ {A = Option Guid} (guid_in_text word) None
-
 
 no_form : (word : List ℕ) → is_plain word ≡ false → IsNoForm word
 no_form [] e = record { replay = refl; answer = refl; guid = refl }
