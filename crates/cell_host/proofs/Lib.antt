@@ -1,6 +1,9 @@
 mod Words
+mod Options
+mod Matches
 mod FewObjects
 mod Forms
 mod Taken
 mod Documents
 mod Nothing
+mod Unrun

@@ -1,6 +1,7 @@
 pub mod Answer
 pub mod Answering
 pub mod Command
+pub mod CommandLine
 pub mod Input
 pub mod Replaying
 pub mod Run

@@ -1,5 +1,5 @@
 -- What a run of the program does, by its command. A further command is a further case.
-use Rattle.std.specs.Prelude.{◌≡◌, ℕ, List, None, Some}
+use Rattle.std.specs.Prelude.{◌≡◌, ◌⊎◌, ℕ, List, None, Some}
 use Rattle.std.specs.declared.option.Option.{Option}
 use Rattle.std.specs.Io.KnownBytes.{Appends}
 use Rattle.host_edge.specs.Causes.{Rose}
@@ -11,11 +11,12 @@ use Rattle.cell_host.specs.View.{View}
 use Rattle.cell_host.specs.declared.command.Command.{Command}
 use Rattle.cell_host.specs.declared.command.Command.TheVariants.{Answer, Replay}
 use Rattle.cell_host.specs.declared.status.Status.{Status}
-use Rattle.cell_host.specs.declared.status.Status.TheVariants.{Usage}
+use Rattle.cell_host.specs.declared.status.Status.TheVariants.{Usage, NoMemory}
 
--- A run of the command, from one moment to another, that ends with this status. Without a command nothing is done.
+-- A run of the command, from one moment to another, that ends with this status. Without a command nothing is done, and
+-- the status says so, or that memory is wanting for the words.
 abbrev pub Runs : Option Command → View → View → Status → Type 0
-Runs None before after status = (status ≡ Usage) × (after ≡ before)
+Runs None before after status = ((status ≡ Usage) ⊎ (status ≡ NoMemory)) × (after ≡ before)
 Runs (Some (Answer guid)) before after status = Answering guid before after status
 Runs (Some Replay) before after status = Replays before after status
 

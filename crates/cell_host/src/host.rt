@@ -12,6 +12,7 @@ use host_edge::{Clock, Sink, Source, write_all};
 use std::alloc::Global;
 
 // Does what the words ask for, but for the line that tells the status.
+#[tactic(auto, using(crate::proofs::Unrun::nothing_run))]
 fn run<S: Source, K: Sink, C: Clock>(
     alloc: Global,
     words: &[&str],
@@ -38,7 +39,10 @@ fn run<S: Source, K: Sink, C: Clock>(
         })
         result }
 {
-    match parse_words(words) {
+    let Ok(command) = parse_words(alloc, words) else {
+        return Status::NoMemory;
+    };
+    match command {
         Some(Command::Answer(guid)) => answer(alloc, guid, source, out, clock),
         Some(Command::Replay) => replay(alloc, source, out, clock),
         None => Status::Usage,
