@@ -1,5 +1,5 @@
 -- What the program reads of clap's matches and of its errors.
-use Rattle.std.proofs.Common.{◌≡◌, ◌≢◌, ◌∙◌, ◌⊎◌, ◌&&◌, ℕ, true, false, true≢false, List, [], ◌∷◌, None, Some, refl, sym, ap, ap₂, subst, codes, inl, inr, Bor, map, option_map, is_some}
+use Rattle.std.proofs.Common.{◌≡◌, ◌≢◌, ◌∙◌, ◌&&◌, true, true≢false, List, [], ◌∷◌, None, Some, refl, sym, ap, ap₂, subst, codes, inl, inr, Bor, option_map, is_some}
 use Rattle.std.specs.declared.option.Option.{Option}
 use Rattle.std.specs.Prelude.{unwrap_or, Box}
 use Rattle.std.specs.Box.{box_value}
@@ -14,7 +14,7 @@ use Rattle.clap.specs.declared.error.kind.ErrorKind.TheVariants.{OutOfMemory}
 use Rattle.clap.specs.declared.parser.matches.ArgMatches.{ArgMatches}
 use Rattle.clap.specs.declared.parser.matches.SubCommand.{SubCommand}
 use Rattle.clap.specs.declared.parser.matches.ArgMatches.TheViews.{out-SubCommand}
-use Rattle.cell_host.specs.Command.{command_in, command_of, texts}
+use Rattle.cell_host.specs.Command.{command_in, texts}
 use Rattle.cell_host.specs.CommandLine.{command_found, command_with, is_plain, program}
 use Rattle.cell_host.specs.declared.command.Command.{Command}
 use Rattle.cell_host.proofs.Words.{Reads, words_read}

@@ -1,18 +1,17 @@
 -- A word that is empty or an option is in no form.
-use Rattle.std.proofs.Common.{◌≡◌, ◌∙◌, ◌==◌, ◌&&◌, ℕ, Bool, true, false, not, List, [], ◌∷◌, length, None, Some, refl, ap, codes, inl, inr, Bor, true≢false, eqb-true, sym, subst, cond}
+use Rattle.std.proofs.Common.{◌≡◌, ◌∙◌, ◌==◌, ◌&&◌, ℕ, Bool, true, false, not, List, [], ◌∷◌, length, None, refl, ap, codes, inl, inr, Bor, true≢false, eqb-true, sym, subst, cond}
 use Rattle.std.specs.Prelude.{slice_index}
 use Rattle.std.specs.declared.option.Option.{Option}
 use Rattle.std.specs.Option.{option_map}
 use Rattle.std.specs.List.{list_all}
 use Rattle.std.specs.Str.{bytes_eq}
 use Rattle.std.proofs.lemmas.Bool.{cases_Bool}
-use Rattle.uuid.specs.Text.{by_index, digits_of, has_hyphens, parsed, parsed_simple, parsed_hyphenated, parsed_braced, parsed_urn}
+use Rattle.uuid.specs.Text.{by_index, digits_of, has_hyphens, parsed_simple, parsed_hyphenated, parsed_braced, parsed_urn}
 use Rattle.compact_values.specs.GuidText.{guid_in_text, guid_of_text_bytes}
 use Rattle.compact_values.specs.declared.guid.Guid.{Guid}
-use Rattle.cell_host.specs.Command.{command_in, command_of, command_of_one, command_of_two, texts}
+use Rattle.cell_host.specs.Command.{command_in, command_of_one, command_of_two}
 use Rattle.cell_host.specs.CommandLine.{is_plain}
 use Rattle.cell_host.specs.declared.command.Command.{Command}
-use Rattle.cell_host.specs.declared.command.Command.TheVariants.{Answer}
 
 abbrev No : Option (List ℕ) → Type 0
 No o = o ≡ None
@@ -24,7 +23,6 @@ either_no false o h = refl
 and_no : (b c : Bool) (o : Option (List ℕ)) → c ≡ false → No (cond (b && c) o None)
 and_no true c o h = ap (λ d. cond d o None) h
 and_no false c o h = refl
-
 
 option_digits : (rest : List ℕ) → No (parsed_simple (digits_of (45 ∷ rest)))
 unfolding by_index
@@ -62,7 +60,6 @@ pub record IsNoForm (word : List ℕ) : Type 0 where
   pub replay : bytes_eq word (codes "replay") ≡ false
   pub answer : bytes_eq word (codes "answer") ≡ false
   pub guid : ◌≡◌ {A = Option Guid} (guid_in_text word) None
-
 
 no_form : (word : List ℕ) → is_plain word ≡ false → IsNoForm word
 no_form [] e = record { replay = refl; answer = refl; guid = refl }

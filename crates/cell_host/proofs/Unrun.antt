@@ -1,5 +1,5 @@
 -- A run whose words could not be read for want of memory, in which nothing was done.
-use Rattle.std.proofs.Common.{◌≡◌, ◌+◌, ℕ, List, [], drop, None, Some, refl, ap, arith, inl, inr, IfSome}
+use Rattle.std.proofs.Common.{◌≡◌, ◌+◌, ℕ, List, [], None, Some, refl, ap, arith, inl, inr, IfSome}
 use Rattle.std.specs.declared.option.Option.{Option}
 use Rattle.std.specs.Option.{option_map}
 use Rattle.std.proofs.KnownBytes.{Consumes-nil, Keeps-refl}

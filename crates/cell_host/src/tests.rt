@@ -147,6 +147,37 @@ fn runs_end_with_their_status(rt: HostRuntime) -> Result<(), Fail> {
 }
 
 #[test]
+fn words_in_no_form_are_usage(rt: HostRuntime) -> Result<(), Fail> {
+    let lines: [&[&str]; 12] = [
+        &[""],
+        &["-"],
+        &["--"],
+        &["--help"],
+        &["-V"],
+        &["help", "answer"],
+        &["replay", "replay"],
+        &["replay", "--"],
+        &["answer", ""],
+        &["answer", "--", "00112233-4455-6677-8899-aabbccddeeff"],
+        &["answer", "1", "2"],
+        &["Answer", "00112233-4455-6677-8899-aabbccddeeff"],
+    ];
+    for words in lines {
+        let run = Run {
+            words,
+            input: &[],
+            failing_reads: &[],
+            failing_writes: &[],
+            status: 2,
+            output: &[],
+            line: b"cellhost: usage\n",
+        };
+        make(&rt, rt.alloc(), run)?;
+    }
+    Ok(())
+}
+
+#[test]
 fn what_is_cut_or_too_long_is_refused(rt: HostRuntime) -> Result<(), Fail> {
     let alloc = rt.alloc();
     let example = bytes_of(alloc, &[EXAMPLE])?;

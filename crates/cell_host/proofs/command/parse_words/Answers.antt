@@ -1,4 +1,4 @@
-use Rattle.std.proofs.Common.{rules, ◌∙◌, ◌≡◌, sym, true, false, ap}
+use Rattle.std.proofs.Common.{rules, ◌∙◌, sym}
 use Rattle.cell_host.proofs.Options.{option_in_no_form}
 use Rattle.cell_host.proofs.Matches.{read_fault, read_found}
 use Rattle.cell_host.proofs.command.parse_words.Goals as goal

@@ -1,8 +1,8 @@
-use Rattle.std.proofs.Common.{rules, ap, ap₂, refl, codes, true, [], ◌≡◌, ◌∙◌}
+use Rattle.std.proofs.Common.{rules, ap, ap₂, true, [], ◌≡◌, ◌∙◌}
 use Rattle.std.proofs.lemmas.Result.{IfOk-weaker}
 use Rattle.clap.specs.Simple.{app_of_fields, on_top}
-use Rattle.clap.specs.Words.{App, Rule, Shape, app_of, rule_of, with_rule, with_subcommand}
-use Rattle.cell_host.specs.CommandLine.{answer_form, guid_rule, program, program_shape, replay_form}
+use Rattle.clap.specs.Words.{App, Shape, app_of, rule_of, with_rule, with_subcommand}
+use Rattle.cell_host.specs.CommandLine.{answer_form, guid_rule, program_shape, replay_form}
 use Rattle.cell_host.proofs.command.program.Goals as goal
 
 pub returns : goal.returns
@@ -15,7 +15,7 @@ returns c =
     let no_help = ap app_of_fields c.disable_help_subcommand.ensures ∙ ap (on_top (λ (s : Shape). record s { disable_help_subcommand = true })) no_help_flag in
     let no_version = ap app_of_fields c.disable_version_flag.ensures ∙ ap (on_top (λ (s : Shape). record s { disable_version_flag = true })) no_help in
     let top_is : app_of c.subcommand_required.result ≡ record { top = program_shape; subs = [] } =
-        ap app_of_fields c.subcommand_required.ensures ∙ ap (on_top (λ (s : Shape). record s { subcommand_required = true })) no_version in
+    ap app_of_fields c.subcommand_required.ensures ∙ ap (on_top (λ (s : Shape). record s { subcommand_required = true })) no_version in
     let with_answer : app_of c.in_ok-subcommand.field-0 ≡ with_subcommand (record { top = program_shape; subs = [] }) answer_form.top =
-        c.in_ok-subcommand.ensures.shape (search rules) ∙ ap₂ with_subcommand top_is (ap (λ (a : App). a.top) answer_is) in
+    c.in_ok-subcommand.ensures.shape (search rules) ∙ ap₂ with_subcommand top_is (ap (λ (a : App). a.top) answer_is) in
     IfOk-weaker c.subcommand-2.result _ _ (λ r h. h.shape (search rules) ∙ ap₂ with_subcommand with_answer (ap (λ (a : App). a.top) replay_is)) c.subcommand-2.ensures
